@@ -1,0 +1,35 @@
+-- The starred questions are answered as document 01 has them: one claim, which antt computes.
+-- Assumes nothing.
+use mathlib.Core.Path.{_≡_, refl}
+use mathlib.Core.Option.{Option, none, some}
+use mathlib.Core.List.{List, [], _∷_, map}
+use Prim.Native.Nat.{ℕ}
+use Rattle.calculus.specs.Bytes.{question}
+use Rattle.calculus.specs.Derivation.{derivation}
+use Rattle.calculus.specs.Reading.{Reading, accepted, reading}
+use Rattle.calculus.specs.Tree.{verdict}
+use Rattle.calculus.specs.Width.{W}
+use Rattle.calculus.specs.Starred.{Case, starred}
+
+-- where the table prints a derivation
+abbrev ifPrinted : Option (List ℕ) → List ℕ → Option (List ℕ)
+ifPrinted none d = none
+ifPrinted (some p) d = some d
+
+-- the case with the answers that the definitions give
+abbrev answered : Case → Case
+answered q =
+    let S = question (q .bytes) in
+    let v = verdict (q .budget) S in
+    record {
+      bytes = q .bytes;
+      budget = q .budget;
+      kind = v .kind;
+      reductions = v .reductions;
+      closings = v .closings;
+      wide = W S;
+      printed = ifPrinted (q .printed) (derivation S);
+    }
+
+pub starred-right : (map (λ q. reading (q .bytes)) starred ≡ map (λ q. accepted) starred) × (map answered starred ≡ starred)
+starred-right = (refl, refl)

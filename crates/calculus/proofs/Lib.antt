@@ -1,0 +1,11 @@
+-- The laws of the definitions. Assumes nothing.
+pub mod Folds
+pub mod Rules
+pub mod Sequents
+pub mod Trees
+pub mod Bounds
+pub mod Budgets
+pub mod Derivations
+pub mod Spelling
+pub mod Readings
+pub mod Cases

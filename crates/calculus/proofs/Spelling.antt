@@ -1,0 +1,83 @@
+-- What bytes spell: formulas and sequents come back from their encoding.
+-- Assumes nothing.
+use mathlib.Core.Path.{_≡_, refl, sym, ap, _∙_}
+use mathlib.Core.Option.{Option, none, some}
+use mathlib.Core.List.{List, [], _∷_, _++_, append-assoc, append-nil}
+use Prim.Native.Nat.{ℕ, suc, _+_, _*_, _≤_}
+use native.Mathlib.Omega.{arith}
+use lib.Dec.{eqb}
+use lib.ListN.{length, drop, length-append}
+use lib.Seq.{drop-append-add}
+use borrow.Author.Tests.{eqb-true}
+use Rattle.calculus.specs.declared.Side.{Side}
+use Rattle.calculus.specs.declared.Side.the-variants.{Left, Right}
+use Rattle.calculus.specs.Fold.{fold, SUM}
+use Rattle.calculus.specs.Limits.{LONGEST}
+use Rattle.calculus.specs.Syntax.{AND, OR, IMPLIES, EQUIV, Connective, NOT, two, Formula, letter, neg, join, Sequent, connectives}
+use Rattle.calculus.specs.Bytes.{Command, SIDE, LETTER, CONNECTIVE, code, commands, command, encode, encodeAll, encodeSide, encodeSequent, attach, spell, formulas, bytes, bytesAll, question, Within}
+use Rattle.calculus.proofs.Folds.{found}
+
+pub command-code : (k : Command) → command (code k) ≡ some k
+command-code (SIDE Left) = refl
+command-code (SIDE Right) = refl
+command-code LETTER = refl
+command-code (CONNECTIVE NOT) = refl
+command-code (CONNECTIVE (two AND)) = refl
+command-code (CONNECTIVE (two OR)) = refl
+command-code (CONNECTIVE (two IMPLIES)) = refl
+command-code (CONNECTIVE (two EQUIV)) = refl
+
+pub command-byte : (b : ℕ) (k : Command) → command b ≡ some k → code k ≡ b
+command-byte b k e = eqb-true (code k) b (found (λ j. eqb (code j) b) commands k e)
+
+pub code-injective : (j k : Command) → code j ≡ code k → j ≡ k
+code-injective j k e = cc (command-code j, command-code k, ap command e)
+
+-- a connective's byte attaches it to what follows; a byte that begins no formula spells none
+pub formulas-attach : (b : ℕ) (k : Connective) (l : List ℕ) → command b ≡ some (CONNECTIVE k) → formulas (b ∷ l) ≡ attach k (formulas l)
+formulas-attach b NOT [] e = refl
+formulas-attach b (two o) [] e = refl
+formulas-attach b k (j ∷ l) e = rw e
+
+pub formulas-side : (s : Side) (l : List ℕ) → formulas (code (SIDE s) ∷ l) ≡ []
+formulas-side s [] = refl
+formulas-side Left (j ∷ l) = refl
+formulas-side Right (j ∷ l) = refl
+
+pub formulas-encode : (x : Formula) (l : List ℕ) → formulas (encode x ++ l) ≡ x ∷ formulas l
+formulas-encode (letter k) l = refl
+formulas-encode (neg x) l = formulas-attach 2 NOT (encode x ++ l) refl ∙ rw (formulas-encode x l)
+formulas-encode (join b x y) l =
+    formulas-attach (code (CONNECTIVE (two b))) (two b) ((encode x ++ encode y) ++ l) (command-code (CONNECTIVE (two b)))
+    ∙ rw (append-assoc, formulas-encode x (encode y ++ l), formulas-encode y l)
+
+pub formulas-encodeAll : (xs : List Formula) (l : List ℕ) → formulas (encodeAll xs ++ l) ≡ xs ++ formulas l
+formulas-encodeAll [] l = refl
+formulas-encodeAll (x ∷ xs) l = rw (append-assoc, formulas-encode x (encodeAll xs ++ l), formulas-encodeAll xs l)
+
+pub question-encode : (S : Sequent) → question (encodeSequent S) ≡ S
+question-encode S =
+    let l : formulas (encodeAll (S .on-left) ++ encodeSide Right (S .on-right)) ≡ S .on-left
+    = formulas-encodeAll (S .on-left) (encodeSide Right (S .on-right)) ∙ rw (formulas-side Right, append-nil) in
+    let r : formulas (encodeAll (S .on-right)) ≡ S .on-right
+    = ap formulas (sym (append-nil (encodeAll (S .on-right)))) ∙ (formulas-encodeAll (S .on-right) [] ∙ append-nil (S .on-right)) in
+    let n : 4 + bytesAll (S .on-left) ≡ length (encodeSide Left (S .on-left)) + 2 = omega arith in
+    let d : formulas (drop (4 + bytesAll (S .on-left)) (encodeSequent S)) ≡ S .on-right
+    = ap (λ (k : ℕ). formulas (drop k (encodeSequent S))) n
+    ∙ ap formulas (drop-append-add (encodeSide Left (S .on-left)) (encodeSide Right (S .on-right)) 2) ∙ r in
+    λ i. record { on-left = l i; on-right = (ap (λ (xs : List Formula). formulas (drop (4 + bytesAll xs) (encodeSequent S))) l ∙ d) i }
+
+-- ---- lengths
+
+bytes-le : (x : Formula) → bytes x ≤ 2 + 3 * connectives x
+bytes-le (letter k) = omega arith
+bytes-le (neg x) = omega (arith, bytes-le x)
+bytes-le (join b x y) = omega (arith, bytes-le x, bytes-le y, length-append (encode x) (encode y))
+
+bytesAll-le : (xs : List Formula) → bytesAll xs ≤ 2 * length xs + 3 * fold SUM connectives xs
+bytesAll-le [] = omega arith
+bytesAll-le (x ∷ xs) = omega (arith, bytes-le x, bytesAll-le xs, length-append (encode x) (encodeAll xs))
+
+-- "so an accepted question has at most 212 bytes"
+pub longest : (S : Sequent) → Within S → length (encodeSequent S) ≤ LONGEST
+longest S w = omega (arith, w .lefts, w .rights, w .connectives, bytesAll-le (S .on-left), bytesAll-le (S .on-right), length-append (encodeSide Left (S .on-left)) (encodeSide Right (S .on-right)))

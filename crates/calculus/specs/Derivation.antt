@@ -1,0 +1,125 @@
+-- "Derivations": what the run writes, what a derivation is, and the checker's walk.
+use mathlib.Core.Path.{_≡_}
+use mathlib.Core.Bool.{Bool, true, false, _&&_}
+use mathlib.Core.Option.{Option, none, some}
+use mathlib.Core.List.{List, [], _∷_, _++_}
+use Prim.Native.Nat.{ℕ, _+_}
+use lib.Dec.{eqb}
+use lib.ListN.{getElem?}
+use Rattle.calculus.specs.declared.Side.{Side}
+use Rattle.calculus.specs.declared.Side.the-variants.{Left, Right}
+use Rattle.calculus.specs.Fold.{find, choose}
+use Rattle.calculus.specs.Limits.{CUT-SHORT, UNKNOWN-COMMAND, NO-FORMULA, OTHER-CONNECTIVE, NOT-CLOSED, BYTES-AFTER}
+use Rattle.calculus.specs.Syntax.{AND, OR, IMPLIES, EQUIV, Connective, NOT, two, Formula, letter, neg, join, Compound, whole, Sequent, on-side}
+use Rattle.calculus.specs.Bytes.{CONNECTIVE, code}
+use Rattle.calculus.specs.Table.{premises}
+use Rattle.calculus.specs.Tree.{letters, among, Event, close, reduce, tree}
+
+-- ---- commands of two bytes
+
+pub data Order : Type 0 where
+  CLOSE : Order
+  REDUCE : Side → Connective → Order
+
+-- "52 to 56 reduce NOT to EQUIV on the left, 62 to 66 on the right"; "41 closes"
+abbrev pub orderCode : Order → ℕ
+orderCode CLOSE = 0x41
+orderCode (REDUCE Left k) = 0x50 + code (CONNECTIVE k)
+orderCode (REDUCE Right k) = 0x60 + code (CONNECTIVE k)
+
+abbrev pub orders : List Order
+orders =
+    CLOSE
+    ∷ REDUCE Left NOT
+    ∷ REDUCE Left (two AND)
+    ∷ REDUCE Left (two OR)
+    ∷ REDUCE Left (two IMPLIES)
+    ∷ REDUCE Left (two EQUIV)
+    ∷ REDUCE Right NOT
+    ∷ REDUCE Right (two AND)
+    ∷ REDUCE Right (two OR)
+    ∷ REDUCE Right (two IMPLIES)
+    ∷ REDUCE Right (two EQUIV)
+    ∷ []
+
+-- the command of a byte
+abbrev pub order : ℕ → Option Order
+order b = find (λ o. eqb (orderCode o) b) orders
+
+-- "the operand is the formula's place on that side, from 0"; of a closing "its operand is the letter"
+abbrev pub written : Event → List ℕ
+written (close k) = orderCode CLOSE ∷ k ∷ []
+written (reduce s i k) = orderCode (REDUCE s k) ∷ i ∷ []
+
+abbrev pub writtenAll : List Event → List ℕ
+writtenAll [] = []
+writtenAll (e ∷ es) = written e ++ writtenAll es
+
+-- the derivation that the writer gives of a theorem
+abbrev pub derivation : Sequent → List ℕ
+derivation S = writtenAll (tree S .events)
+
+-- ---- what a derivation is, in any order of reduction
+
+-- a letter stands on both sides
+pub record Closes (k : ℕ) (S : Sequent) : Type 0 where
+  pub lefts : among k (letters (S .on-left)) ≡ true
+  pub rights : among k (letters (S .on-right)) ≡ true
+
+-- "after a reduction with two premises comes the whole derivation of the first premise, then that of the second"
+mutual
+  pub data Derivation : Sequent → List ℕ → Type 0 where
+    by-letter : {S : Sequent} {ds : List ℕ} (k : ℕ) → Closes k S → ds ≡ orderCode CLOSE ∷ k ∷ [] → Derivation S ds
+    by-rule : {S : Sequent} {ds es : List ℕ} (s : Side) (i : ℕ) (x : Compound) → getElem? (on-side s S) i ≡ some (whole x)
+        → Derivations (premises s i x S) es → ds ≡ orderCode (REDUCE s (x .connective)) ∷ i ∷ es → Derivation S ds
+
+  pub data Derivations : List Sequent → List ℕ → Type 0 where
+    none-left : Derivations [] []
+    then : {P : Sequent} {Ps : List Sequent} {ds es fs : List ℕ} → Derivation P es → Derivations Ps fs → ds ≡ es ++ fs → Derivations (P ∷ Ps) ds
+
+-- ---- the checker
+
+-- a fault's number, or the premises that wait now
+pub data Move : Type 0 where
+  fault : ℕ → Move
+  waiting : List Sequent → Move
+
+abbrev pub matched : Bool → List Sequent → Move
+matched true Ps = waiting Ps
+matched false Ps = fault OTHER-CONNECTIVE
+
+abbrev pub named : Side → ℕ → Connective → Sequent → Option Formula → Move
+named s i k S none = fault NO-FORMULA
+named s i k S (some (letter j)) = fault OTHER-CONNECTIVE
+named s i k S (some (neg x)) = matched (eqb (code (CONNECTIVE k)) (code (CONNECTIVE NOT))) (premises s i (record { connective = NOT; f = x; g = x }) S)
+named s i k S (some (join b x y)) = matched (eqb (code (CONNECTIVE k)) (code (CONNECTIVE (two b)))) (premises s i (record { connective = two b; f = x; g = y }) S)
+
+abbrev pub shut : Bool → Move
+shut true = waiting []
+shut false = fault NOT-CLOSED
+
+-- one command with its operand, at the sequent that waits
+abbrev pub obey : Option Order → ℕ → Sequent → Move
+obey none i S = fault UNKNOWN-COMMAND
+obey (some CLOSE) i S = shut (among i (letters (S .on-left)) && among i (letters (S .on-right)))
+obey (some (REDUCE s k)) i S = named s i k S (getElem? (on-side s S) i)
+
+pub data Checked : Type 0 where
+  passes : Checked
+  faulty : ℕ → ℕ → Checked
+
+abbrev pub proceed : Move → ℕ → (List Sequent → Checked) → Checked
+proceed (fault n) at r = faulty n at
+proceed (waiting Ps) at r = r Ps
+
+-- the sequents that wait, one derivation after the other; "the command's place", or the first byte left over
+abbrev pub check : List ℕ → List Sequent → ℕ → Checked
+check [] [] at = passes
+check [] (P ∷ Ps) at = faulty CUT-SHORT at
+check (b ∷ []) [] at = faulty BYTES-AFTER at
+check (b ∷ []) (P ∷ Ps) at = faulty CUT-SHORT at
+check (b ∷ i ∷ bs) [] at = faulty BYTES-AFTER at
+check (b ∷ i ∷ bs) (P ∷ Ps) at = proceed (obey (order b) i P) at (λ Qs. check bs (Qs ++ Ps) (at + 2))
+
+abbrev pub checking : Sequent → List ℕ → Checked
+checking S ds = check ds (S ∷ []) 0

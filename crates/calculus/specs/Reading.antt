@@ -1,0 +1,71 @@
+-- Reading a question: "the reader decides from what it still expects which command may come at this byte".
+use mathlib.Core.Bool.{Bool, true, false}
+use mathlib.Core.Option.{Option, none, some}
+use mathlib.Core.List.{List, [], _∷_}
+use Prim.Native.Nat.{ℕ, zero, suc}
+use lib.Dec.{eqb, ltb, leb}
+use lib.ListN.{length}
+use Rattle.calculus.specs.declared.Side.{Side}
+use Rattle.calculus.specs.declared.Side.the-variants.{Left, Right}
+use Rattle.calculus.specs.declared.Expected.{Expected}
+use Rattle.calculus.specs.declared.Expected.the-variants.{Head, Count, Formula, Operand, End}
+use Rattle.calculus.specs.Fold.{choose}
+use Rattle.calculus.specs.Limits.{LONGEST, FORMULAS, CONNECTIVES, LETTERS, TOO-LONG, CUT, WRONG-COMMAND, MANY-FORMULAS, NO-SUCH-LETTER, MANY-CONNECTIVES, LEFT-OVER}
+use Rattle.calculus.specs.Syntax.{NOT, two}
+use Rattle.calculus.specs.Bytes.{Command, SIDE, LETTER, CONNECTIVE, code, command}
+
+-- a number of the table, or what is expected next and the connectives so far
+pub data Onward : Type 0 where
+  refuse : ℕ → Onward
+  onward : Expected → ℕ → Onward
+
+abbrev pub unless : ℕ → Bool → Onward → Onward
+unless n true o = o
+unless n false o = refuse n
+
+-- what is expected where so many formulas of a side are still due
+abbrev pub after : Side → ℕ → Expected
+after s (suc n) = Formula s n
+after Left zero = Head Right
+after Right zero = End
+
+-- a formula's command, with n more formulas of side s due after it and c connectives before it
+abbrev pub begin : Option Command → Side → ℕ → ℕ → Onward
+begin none s n c = refuse WRONG-COMMAND
+begin (some (SIDE t)) s n c = refuse WRONG-COMMAND
+begin (some LETTER) s n c = onward (Operand s n) c
+begin (some (CONNECTIVE NOT)) s n c = unless MANY-CONNECTIVES (ltb c CONNECTIVES) (onward (Formula s n) (suc c))
+begin (some (CONNECTIVE (two b))) s n c = unless MANY-CONNECTIVES (ltb c CONNECTIVES) (onward (Formula s (suc n)) (suc c))
+
+-- the byte b where e is expected
+abbrev pub advance : Expected → ℕ → ℕ → Onward
+advance (Head s) c b = unless WRONG-COMMAND (eqb b (code (SIDE s))) (onward (Count s) c)
+advance (Count s) c b = unless MANY-FORMULAS (leb b FORMULAS) (onward (after s b) c)
+advance (Formula s n) c b = begin (command b) s n c
+advance (Operand s n) c b = unless NO-SUCH-LETTER (ltb b LETTERS) (onward (after s n) c)
+advance End c b = refuse LEFT-OVER
+
+pub data Reading : Type 0 where
+  accepted : Reading
+  refused : ℕ → ℕ → Reading
+
+-- the end of the bytes
+abbrev pub ended : Expected → ℕ → Reading
+ended (Head s) at = refused CUT at
+ended (Count s) at = refused CUT at
+ended (Formula s n) at = refused CUT at
+ended (Operand s n) at = refused CUT at
+ended End at = accepted
+
+abbrev pub goOn : Onward → ℕ → (Expected → ℕ → Reading) → Reading
+goOn (refuse n) at r = refused n at
+goOn (onward e c) at r = r e c
+
+-- "reading from the first byte on; the earliest decides": each number comes with the place of the byte at hand, or the length
+abbrev pub read : List ℕ → Expected → ℕ → ℕ → Reading
+read [] e c at = ended e at
+read (b ∷ bs) e c at = goOn (advance e c b) at (λ e′ c′. read bs e′ c′ (suc at))
+
+-- "1 comes before all"
+abbrev pub reading : List ℕ → Reading
+reading q = choose (ltb LONGEST (length q)) (refused TOO-LONG LONGEST) (read q (Head Left) 0 0)

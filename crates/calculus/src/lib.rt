@@ -1,0 +1,47 @@
+// The types that the code and the definitions share.
+ghost use mathlib.Core.Path.{_≡_};
+ghost use Rattle.calculus.specs.Syntax.{other};
+
+pub enum Side {
+    Left,
+    Right,
+}
+
+impl Side {
+    pub fn other(self) -> Side
+        ensures { λ r. ⌜ r ≡ other self ⌝ }
+    {
+        match self {
+            Side::Left => Side::Right,
+            Side::Right => Side::Left,
+        }
+    }
+}
+
+// What the reader of a question still expects.
+pub enum Expected {
+    // The command of a side.
+    Head(Side),
+    // The number of a side's formulas.
+    Count(Side),
+    // A formula of a side, and so many more after it.
+    Formula(Side, usize),
+    // The operand of a letter on a side, and so many formulas after it.
+    Operand(Side, usize),
+    End,
+}
+
+// How a run ends. A refuted question comes with its state.
+pub enum Kind {
+    Theorem,
+    Refuted(u32),
+    Spent,
+    Full,
+}
+
+// A verdict carries its kind, and beside it the two counts.
+pub struct Verdict {
+    pub kind: Kind,
+    pub reductions: u64,
+    pub closings: u64,
+}
