@@ -15,13 +15,14 @@ use Rattle.calculus.specs.declared.Side.{Side}
 use Rattle.calculus.specs.declared.Side.the-variants.{Left, Right}
 use Rattle.calculus.specs.declared.Kind.{Kind}
 use Rattle.calculus.specs.declared.Kind.the-variants.{Theorem, Refuted, Spent, Full}
-use Rattle.calculus.specs.Fold.{fold, ALL, SUM, Each}
+use Rattle.calculus.specs.Fold.{fold, ALL, SUM, Each, choose}
+use Rattle.calculus.specs.Limits.{OTHER-CONNECTIVE, NOT-CLOSED}
 use Rattle.calculus.specs.Syntax.{AND, OR, IMPLIES, EQUIV, Connective, NOT, two, Formula, letter, neg, join, Compound, whole, Sequent, on-side}
 use Rattle.calculus.specs.Bytes.{CONNECTIVE, code}
 use Rattle.calculus.specs.Truth.{truth, Valid}
 use Rattle.calculus.specs.Table.{premises}
 use Rattle.calculus.specs.Tree.{letters, among, Step, closed, opened, full, reduced, Event, close, reduce, Tree, follow, chain, grow, tree, reductions, closings}
-use Rattle.calculus.specs.Derivation.{Order, CLOSE, REDUCE, orderCode, orders, order, written, writtenAll, derivation, Closes, Derivation, by-letter, by-rule, Derivations, none-left, then, Move, fault, waiting, matched, named, shut, obey, Checked, passes, faulty, proceed, check, checking}
+use Rattle.calculus.specs.Derivation.{Order, CLOSE, REDUCE, orderCode, orders, order, written, writtenAll, derivation, Closes, Derivation, by-letter, by-rule, Derivations, none-left, then, Move, fault, waiting, matched, named, obey, Checked, passes, faulty, proceed, check, checking}
 use Rattle.calculus.proofs.Folds.{and-both, found}
 use Rattle.calculus.proofs.Spelling.{code-injective}
 use Rattle.calculus.proofs.Sequents.{truth-premises, Smaller, smaller}
@@ -103,14 +104,14 @@ obeyed b i S = go (order b) refl
     none-more : (ds : List ℕ) → Derivations [] ds → ds ≡ []
     none-more ds none-left = refl
 
-    shuts : (t u : Bool) → among i (letters (S .on-left)) ≡ t → among i (letters (S .on-right)) ≡ u → orderCode CLOSE ≡ b → Obeyed S b i (shut (t && u))
+    shuts : (t u : Bool) → among i (letters (S .on-left)) ≡ t → among i (letters (S .on-right)) ≡ u → orderCode CLOSE ≡ b → Obeyed S b i (choose (t && u) (waiting []) (fault NOT-CLOSED))
     shuts true true p q e =
         λ ds d. by-letter i (record { lefts = p; rights = q }) (ap (λ (n : ℕ). n ∷ i ∷ ds) (sym e) ∙ ap (λ (l : List ℕ). orderCode CLOSE ∷ i ∷ l) (none-more ds d))
     shuts true false p q e = tt
     shuts false u p q e = tt
 
     rule : (s : Side) (k : Connective) (x : Compound) → getElem? (on-side s S) i ≡ some (whole x) → orderCode (REDUCE s k) ≡ b
-        → (t : Bool) → (t ≡ true → k ≡ x .connective) → Obeyed S b i (matched t (premises s i x S))
+        → (t : Bool) → (t ≡ true → k ≡ x .connective) → Obeyed S b i (choose t (waiting (premises s i x S)) (fault OTHER-CONNECTIVE))
     rule s k x h e true f = λ ds d. by-rule s i x h d (ap (λ (n : ℕ). n ∷ i ∷ ds) (sym e) ∙ ap (λ (j : Connective). orderCode (REDUCE s j) ∷ i ∷ ds) (f refl))
     rule s k x h e false f = tt
 

@@ -19,7 +19,7 @@ use Rattle.calculus.specs.Fold.{fold, SUM, Each, choose}
 use Rattle.calculus.specs.Limits.{ROOM, LONGEST, FORMULAS, CONNECTIVES, LETTERS, TOO-LONG, CUT, WRONG-COMMAND, MANY-FORMULAS, NO-SUCH-LETTER, MANY-CONNECTIVES, LEFT-OVER}
 use Rattle.calculus.specs.Syntax.{Binary, Connective, NOT, two, Formula, letter, neg, join, Sequent, connectives, c, size}
 use Rattle.calculus.specs.Bytes.{Command, SIDE, LETTER, CONNECTIVE, code, command, encode, encodeAll, encodeSide, encodeSequent, bytes, bytesAll, question, Lettered, Within}
-use Rattle.calculus.specs.Reading.{Onward, refuse, onward, unless, after, begin, advance, Reading, accepted, refused, ended, goOn, read, reading}
+use Rattle.calculus.specs.Reading.{Onward, refuse, onward, after, begin, advance, Reading, accepted, refused, ended, goOn, read, reading}
 use Rattle.calculus.proofs.Spelling.{command-code, command-byte, question-encode, longest}
 
 -- ---- what is within the limits is accepted
@@ -178,7 +178,7 @@ not-refused n at e = let z : _≡_ {A = ℕ} 0 1 = cc in absurd (omega arith)
 -- one byte, given what holds of the bytes after it
 module _ (b : ℕ) (bs : List ℕ) (at : ℕ) (ih : (e : Expected) (d : ℕ) → d ≤ CONNECTIVES → read bs e d (suc at) ≡ accepted → Rest e d bs) where
   passed : {Q : Type 0} (n : ℕ) (t : Bool) (e : Expected) (d : ℕ) → (t ≡ true → d ≤ CONNECTIVES)
-      → goOn (unless n t (onward e d)) at (λ e′ c′. read bs e′ c′ (suc at)) ≡ accepted → (t ≡ true → Rest e d bs → Q) → Q
+      → goOn (choose t (onward e d) (refuse n)) at (λ e′ c′. read bs e′ c′ (suc at)) ≡ accepted → (t ≡ true → Rest e d bs → Q) → Q
   passed n true e d m h f = f refl (ih e d (m refl) h)
   passed n false e d m h f = not-refused _ _ h
 

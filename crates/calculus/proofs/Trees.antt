@@ -15,12 +15,12 @@ use lib.Dec.{eqb, ltb, eqb·zero-suc, eqb·suc-zero, eqb·suc-suc}
 use lib.ListN.{getElem?}
 use Rattle.calculus.specs.declared.Side.{Side}
 use Rattle.calculus.specs.declared.Side.the-variants.{Left, Right}
-use Rattle.calculus.specs.Fold.{fold, ANY, SUM, Each}
+use Rattle.calculus.specs.Fold.{fold, ANY, SUM, Each, choose}
 use Rattle.calculus.specs.Limits.{ROOM, LETTERS}
 use Rattle.calculus.specs.Syntax.{Formula, letter, neg, join, Compound, whole, Sequent, over, c, size}
 use Rattle.calculus.specs.Truth.{bit, says, truth}
 use Rattle.calculus.specs.Table.{premises}
-use Rattle.calculus.specs.Tree.{letters, among, lower, common, closing, light, state, First, missing, here, later, first, Step, closed, opened, full, reduced, unlessFull, due, tests, step, reduce, Tree, chain, under, grow, growBy, tree}
+use Rattle.calculus.specs.Tree.{letters, among, lower, common, closing, light, state, First, missing, here, later, first, Step, closed, opened, full, reduced, due, tests, step, reduce, Tree, chain, under, grow, growBy, tree}
 use Rattle.calculus.proofs.Folds.{or-elim, not-so, each, any-false}
 use Rattle.calculus.proofs.Rules.{weight}
 use Rattle.calculus.proofs.Sequents.{Due, Smaller, smaller, weight-size}
@@ -170,7 +170,7 @@ right-due S s i x h = go (fold ANY (λ P. ltb ROOM (size P)) (premises s i x S))
         any-false (λ P. ltb ROOM (size P)) (Smaller S) (λ P k. le-ltb ROOM (size P) (omega (arith, weight-size P)))
         (premises s i x S) (smaller s i x S h)
 
-    go : (b : Bool) → fold ANY (λ P. ltb ROOM (size P)) (premises s i x S) ≡ b → Right-step S (unlessFull b s i x)
+    go : (b : Bool) → fold ANY (λ P. ltb ROOM (size P)) (premises s i x S) ≡ b → Right-step S (choose b full (reduced s i x))
     go true e = elim (decLe (over SUM weight S) ROOM) [ yes l ↦ absurd (false≢true (sym (small l) ∙ e)) | no l ↦ omega arith ]
     go false e = h
 

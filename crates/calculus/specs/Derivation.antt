@@ -84,24 +84,20 @@ pub data Move : Type 0 where
   fault : ℕ → Move
   waiting : List Sequent → Move
 
-abbrev pub matched : Bool → List Sequent → Move
-matched true Ps = waiting Ps
-matched false Ps = fault OTHER-CONNECTIVE
+-- the premises, if the command's connective is the formula's
+abbrev pub matched : Connective → Side → ℕ → Compound → Sequent → Move
+matched k s i x S = choose (eqb (code (CONNECTIVE k)) (code (CONNECTIVE (x .connective)))) (waiting (premises s i x S)) (fault OTHER-CONNECTIVE)
 
 abbrev pub named : Side → ℕ → Connective → Sequent → Option Formula → Move
 named s i k S none = fault NO-FORMULA
 named s i k S (some (letter j)) = fault OTHER-CONNECTIVE
-named s i k S (some (neg x)) = matched (eqb (code (CONNECTIVE k)) (code (CONNECTIVE NOT))) (premises s i (record { connective = NOT; f = x; g = x }) S)
-named s i k S (some (join b x y)) = matched (eqb (code (CONNECTIVE k)) (code (CONNECTIVE (two b)))) (premises s i (record { connective = two b; f = x; g = y }) S)
-
-abbrev pub shut : Bool → Move
-shut true = waiting []
-shut false = fault NOT-CLOSED
+named s i k S (some (neg x)) = matched k s i (record { connective = NOT; f = x; g = x }) S
+named s i k S (some (join b x y)) = matched k s i (record { connective = two b; f = x; g = y }) S
 
 -- one command with its operand, at the sequent that waits
 abbrev pub obey : Option Order → ℕ → Sequent → Move
 obey none i S = fault UNKNOWN-COMMAND
-obey (some CLOSE) i S = shut (among i (letters (S .on-left)) && among i (letters (S .on-right)))
+obey (some CLOSE) i S = choose (among i (letters (S .on-left)) && among i (letters (S .on-right))) (waiting []) (fault NOT-CLOSED)
 obey (some (REDUCE s k)) i S = named s i k S (getElem? (on-side s S) i)
 
 pub data Checked : Type 0 where

@@ -19,10 +19,6 @@ pub data Onward : Type 0 where
   refuse : ℕ → Onward
   onward : Expected → ℕ → Onward
 
-abbrev pub unless : ℕ → Bool → Onward → Onward
-unless n true o = o
-unless n false o = refuse n
-
 -- what is expected where so many formulas of a side are still due
 abbrev pub after : Side → ℕ → Expected
 after s (suc n) = Formula s n
@@ -34,15 +30,15 @@ abbrev pub begin : Option Command → Side → ℕ → ℕ → Onward
 begin none s n c = refuse WRONG-COMMAND
 begin (some (SIDE t)) s n c = refuse WRONG-COMMAND
 begin (some LETTER) s n c = onward (Operand s n) c
-begin (some (CONNECTIVE NOT)) s n c = unless MANY-CONNECTIVES (ltb c CONNECTIVES) (onward (Formula s n) (suc c))
-begin (some (CONNECTIVE (two b))) s n c = unless MANY-CONNECTIVES (ltb c CONNECTIVES) (onward (Formula s (suc n)) (suc c))
+begin (some (CONNECTIVE NOT)) s n c = choose (ltb c CONNECTIVES) (onward (Formula s n) (suc c)) (refuse MANY-CONNECTIVES)
+begin (some (CONNECTIVE (two b))) s n c = choose (ltb c CONNECTIVES) (onward (Formula s (suc n)) (suc c)) (refuse MANY-CONNECTIVES)
 
 -- the byte b where e is expected
 abbrev pub advance : Expected → ℕ → ℕ → Onward
-advance (Head s) c b = unless WRONG-COMMAND (eqb b (code (SIDE s))) (onward (Count s) c)
-advance (Count s) c b = unless MANY-FORMULAS (leb b FORMULAS) (onward (after s b) c)
+advance (Head s) c b = choose (eqb b (code (SIDE s))) (onward (Count s) c) (refuse WRONG-COMMAND)
+advance (Count s) c b = choose (leb b FORMULAS) (onward (after s b) c) (refuse MANY-FORMULAS)
 advance (Formula s n) c b = begin (command b) s n c
-advance (Operand s n) c b = unless NO-SUCH-LETTER (ltb b LETTERS) (onward (after s n) c)
+advance (Operand s n) c b = choose (ltb b LETTERS) (onward (after s n) c) (refuse NO-SUCH-LETTER)
 advance End c b = refuse LEFT-OVER
 
 pub data Reading : Type 0 where

@@ -1,5 +1,4 @@
 -- "Numbers and places returned": what each call replies for each input.
-use mathlib.Core.Bool.{Bool, true, false}
 use mathlib.Core.Option.{Option, none, some}
 use mathlib.Core.List.{List, [], _∷_, _++_}
 use Prim.Native.Nat.{ℕ}
@@ -9,6 +8,7 @@ use Rattle.calculus.specs.declared.Side.{Side}
 use Rattle.calculus.specs.declared.Kind.{Kind}
 use Rattle.calculus.specs.declared.Kind.the-variants.{Theorem, Refuted, Spent, Full}
 use Rattle.calculus.specs.declared.Verdict.{Verdict}
+use Rattle.calculus.specs.Fold.{choose}
 use Rattle.calculus.specs.Limits.{FULL, SPENT, NOT-PROVED, NO-SPACE}
 use Rattle.calculus.specs.Syntax.{Formula, Sequent, on-side, c}
 use Rattle.calculus.specs.Bytes.{bytes, question, startOf}
@@ -69,12 +69,10 @@ pub record Written : Type 0 where
   pub reply : Reply
   pub buffer : List ℕ
 
-abbrev pub fitted : Bool → List ℕ → List ℕ → ℕ → ℕ → Written
-fitted true ds old r k = record { reply = record { number = NO-SPACE; values = length ds ∷ [] }; buffer = old }
-fitted false ds old r k = record { reply = record { number = 0; values = length ds ∷ r ∷ k ∷ [] }; buffer = ds ++ drop (length ds) old }
-
 abbrev pub writeOut : Kind → ℕ → ℕ → List ℕ → List ℕ → Written
-writeOut Theorem r k ds old = fitted (ltb (length old) (length ds)) ds old r k
+writeOut Theorem r k ds old =
+    choose (ltb (length old) (length ds)) (record { reply = record { number = NO-SPACE; values = length ds ∷ [] }; buffer = old })
+    (record { reply = record { number = 0; values = length ds ∷ r ∷ k ∷ [] }; buffer = ds ++ drop (length ds) old })
 writeOut (Refuted σ) r k ds old = record { reply = record { number = NOT-PROVED; values = σ ∷ r ∷ k ∷ [] }; buffer = old }
 writeOut Spent r k ds old = record { reply = verdictReply Spent r k; buffer = old }
 writeOut Full r k ds old = record { reply = verdictReply Full r k; buffer = old }

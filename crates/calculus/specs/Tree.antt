@@ -9,7 +9,7 @@ use Rattle.calculus.specs.declared.Side.the-variants.{Left, Right}
 use Rattle.calculus.specs.declared.Kind.{Kind}
 use Rattle.calculus.specs.declared.Kind.the-variants.{Theorem, Refuted, Spent, Full}
 use Rattle.calculus.specs.declared.Verdict.{Verdict}
-use Rattle.calculus.specs.Fold.{fold, ANY, SUM}
+use Rattle.calculus.specs.Fold.{fold, ANY, SUM, choose}
 use Rattle.calculus.specs.Limits.{ROOM}
 use Rattle.calculus.specs.Syntax.{Connective, NOT, two, Compound, Formula, letter, neg, join, Sequent, c, size}
 use Rattle.calculus.specs.Table.{premises}
@@ -71,13 +71,9 @@ pub data Step : Type 0 where
   full : Step
   reduced : Side → ℕ → Compound → Step
 
-abbrev pub unlessFull : Bool → Side → ℕ → Compound → Step
-unlessFull true s i x = full
-unlessFull false s i x = reduced s i x
-
 -- "if a premise of the due reduction would hold more than 80 formulas, the run is FULL"
 abbrev pub due : Sequent → Side → ℕ → Compound → Step
-due S s i x = unlessFull (fold ANY (λ P. ltb ROOM (size P)) (premises s i x S)) s i x
+due S s i x = choose (fold ANY (λ P. ltb ROOM (size P)) (premises s i x S)) full (reduced s i x)
 
 -- "in this order": closed; open if no connective is left; else the first formula with a connective, the left side before the right.
 -- "Bit k is set exactly if letter k stands on the left of the open sequent."
