@@ -10,11 +10,12 @@ use native.Mathlib.Numerals.{sub-one}
 use native.Mathlib.Omega.{arith}
 use Rattle.calculus.specs.declared.Kind.{Kind}
 use Rattle.calculus.specs.declared.Kind.the-variants.{Theorem, Refuted, Spent, Full}
+use Rattle.calculus.specs.declared.Outcome.{Outcome}
 use Rattle.calculus.specs.declared.Verdict.{Verdict}
 use Rattle.calculus.specs.Fold.{Each}
 use Rattle.calculus.specs.Syntax.{Sequent, c}
 use Rattle.calculus.specs.Table.{premises}
-use Rattle.calculus.specs.Tree.{Step, closed, opened, full, reduced, step, Event, close, reduce, Tree, follow, chain, grow, tree, reductions, closings, Outcome, oneMore, spend, outcome, verdict, Inner, isClosed, isOpen, isFull, isSpent, isDue, afford, inner, andThen, pass, act, runBy, run}
+use Rattle.calculus.specs.Tree.{Step, closed, opened, full, reduced, step, Event, close, reduce, Tree, follow, chain, grow, tree, reductions, closings, oneMore, spend, outcome, verdict, Inner, isClosed, isOpen, isFull, isSpent, isDue, afford, inner, andThen, pass, act, runBy, run}
 use Rattle.calculus.proofs.Folds.{each}
 use Rattle.calculus.proofs.Sequents.{Smaller, smaller}
 use Rattle.calculus.proofs.Trees.{Right-step, right-step, tree-grows}
@@ -24,7 +25,7 @@ use Rattle.calculus.proofs.Bounds.{never-spent}
 
 -- a budget that suffices: the tree's end and its counts
 pub spend-whole : (b : ℕ) (es : List Event) (e : Kind) → reductions es ≤ b
-    → spend b es e ≡ record { kind = e; unspent = b - reductions es; closed-ones = closings es }
+    → spend b es e ≡ record { kind = e; unspent = b - reductions es; closings = closings es }
 spend-whole b [] e h = rw sub-zero
 spend-whole b (close k ∷ es) e h = rw (spend-whole b es e (omega arith), zero-add)
 spend-whole zero (reduce s i k ∷ es) e h = absurd (omega arith)
@@ -46,7 +47,7 @@ closingsBefore b (close k ∷ es) = 1 + closingsBefore b es
 closingsBefore zero (reduce s i k ∷ es) = 0
 closingsBefore (suc b) (reduce s i k ∷ es) = closingsBefore b es
 
-pub spend-closings : (b : ℕ) (es : List Event) (e : Kind) → spend b es e .closed-ones ≡ closingsBefore b es
+pub spend-closings : (b : ℕ) (es : List Event) (e : Kind) → spend b es e .closings ≡ closingsBefore b es
 spend-closings b [] e = refl
 spend-closings b (close k ∷ es) e = rw (spend-closings b es e)
 spend-closings zero (reduce s i k ∷ es) e = refl
@@ -75,7 +76,7 @@ pub whole-verdict : (b : ℕ) (S : Sequent) → reductions (tree S .events) ≤ 
 whole-verdict b S h =
     let e = spend-whole b (tree S .events) (tree S .end) h in
     let r : b - (b - reductions (tree S .events)) ≡ reductions (tree S .events) = omega arith in
-    ap (λ (o : Outcome). record { kind = o .kind; reductions = b - o .unspent; closings = o .closed-ones }) e ∙ rw r
+    ap (λ (o : Outcome). record { kind = o .kind; reductions = b - o .unspent; closings = o .closings }) e ∙ rw r
 
 -- the budget bounds what is left
 pub spend-left : (b : ℕ) (es : List Event) (e : Kind) → spend b es e .unspent ≤ b

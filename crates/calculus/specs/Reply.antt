@@ -7,11 +7,12 @@ use lib.ListN.{length, drop, getElem?}
 use Rattle.calculus.specs.declared.Side.{Side}
 use Rattle.calculus.specs.declared.Kind.{Kind}
 use Rattle.calculus.specs.declared.Kind.the-variants.{Theorem, Refuted, Spent, Full}
+use Rattle.calculus.specs.declared.Part.{Part}
 use Rattle.calculus.specs.declared.Verdict.{Verdict}
 use Rattle.calculus.specs.Fold.{choose}
 use Rattle.calculus.specs.Limits.{FULL, SPENT, NOT-PROVED, NO-SPACE}
 use Rattle.calculus.specs.Syntax.{Formula, Sequent, on-side, c}
-use Rattle.calculus.specs.Bytes.{bytes, question, startOf}
+use Rattle.calculus.specs.Bytes.{encode, bytes, question, startOf}
 use Rattle.calculus.specs.Reading.{Reading, accepted, refused, reading}
 use Rattle.calculus.specs.Tree.{verdict}
 use Rattle.calculus.specs.Width.{W}
@@ -47,10 +48,6 @@ widthReply q = ifRead (reading q) (record { number = 0; values = W (question q) 
 
 -- ---- handing out a formula: a part of the question, empty "if the question is refused or has no such place"
 
-pub record Part : Type 0 where
-  pub start : ℕ
-  pub count : ℕ
-
 abbrev pub partOf : Side → ℕ → Sequent → Option Formula → Part
 partOf s i S none = record { start = 0; count = 0 }
 partOf s i S (some x) = record { start = startOf s i S; count = bytes x }
@@ -61,6 +58,15 @@ partIf (refused n at) s i S = record { start = 0; count = 0 }
 
 abbrev pub formulaPart : List ℕ → Side → ℕ → Part
 formulaPart q s i = partIf (reading q) s i (question q)
+
+-- "that formula's own bytes"
+abbrev pub ownBytes : Reading → Option Formula → List ℕ
+ownBytes accepted none = []
+ownBytes accepted (some x) = encode x
+ownBytes (refused n at) o = []
+
+abbrev pub formulaBytes : List ℕ → Side → ℕ → List ℕ
+formulaBytes q s i = ownBytes (reading q) (getElem? (on-side s (question q)) i)
 
 -- ---- writing a derivation: "8, 9, 10, 11 in that order"
 

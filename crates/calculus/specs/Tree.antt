@@ -8,6 +8,7 @@ use Rattle.calculus.specs.declared.Side.{Side}
 use Rattle.calculus.specs.declared.Side.the-variants.{Left, Right}
 use Rattle.calculus.specs.declared.Kind.{Kind}
 use Rattle.calculus.specs.declared.Kind.the-variants.{Theorem, Refuted, Spent, Full}
+use Rattle.calculus.specs.declared.Outcome.{Outcome}
 use Rattle.calculus.specs.declared.Verdict.{Verdict}
 use Rattle.calculus.specs.Fold.{fold, ANY, SUM, choose}
 use Rattle.calculus.specs.Limits.{ROOM}
@@ -147,20 +148,14 @@ closings = fold SUM isClose
 
 -- ---- the budget
 
--- how it went, the reductions left and the sequents closed
-pub record Outcome : Type 0 where
-  pub kind : Kind
-  pub unspent : ℕ
-  pub closed-ones : ℕ
-
 abbrev pub oneMore : Outcome → Outcome
-oneMore o = record { kind = o .kind; unspent = o .unspent; closed-ones = 1 + o .closed-ones }
+oneMore o = record { kind = o .kind; unspent = o .unspent; closings = 1 + o .closings }
 
 -- the tree in its order, as far as the budget goes: "SPENT reports the closings before the tree's reduced sequent number budget + 1"
 abbrev pub spend : ℕ → List Event → Kind → Outcome
-spend b [] e = record { kind = e; unspent = b; closed-ones = 0 }
+spend b [] e = record { kind = e; unspent = b; closings = 0 }
 spend b (close k ∷ es) e = oneMore (spend b es e)
-spend zero (reduce s i k ∷ es) e = record { kind = Spent; unspent = 0; closed-ones = 0 }
+spend zero (reduce s i k ∷ es) e = record { kind = Spent; unspent = 0; closings = 0 }
 spend (suc b) (reduce s i k ∷ es) e = spend b es e
 
 abbrev pub outcome : ℕ → Sequent → Outcome
@@ -170,7 +165,7 @@ outcome b S = spend b (tree S .events) (tree S .end)
 abbrev pub verdict : ℕ → Sequent → Verdict
 verdict b S =
     let o : Outcome = outcome b S in
-    record { kind = o .kind; reductions = b - o .unspent; closings = o .closed-ones }
+    record { kind = o .kind; reductions = b - o .unspent; closings = o .closings }
 
 -- ---- the run, step by step: reductions left go in and come out
 
@@ -195,24 +190,24 @@ inner b S = afford b (step S)
 abbrev pub andThen : Kind → Outcome → (ℕ → Outcome) → Outcome
 andThen Theorem o u =
     let v : Outcome = u (o .unspent) in
-    record { kind = v .kind; unspent = v .unspent; closed-ones = o .closed-ones + v .closed-ones }
+    record { kind = v .kind; unspent = v .unspent; closings = o .closings + v .closings }
 andThen (Refuted σ) o u = o
 andThen Spent o u = o
 andThen Full o u = o
 
 abbrev pub pass : (ℕ → Sequent → Outcome) → ℕ → List Sequent → Outcome
-pass r b [] = record { kind = Theorem; unspent = b; closed-ones = 0 }
+pass r b [] = record { kind = Theorem; unspent = b; closings = 0 }
 pass r b (P ∷ Ps) = andThen (r b P .kind) (r b P) (λ l. pass r l Ps)
 
 abbrev pub act : (ℕ → Sequent → Outcome) → ℕ → Sequent → Inner → Outcome
-act r b S (isClosed k) = record { kind = Theorem; unspent = b; closed-ones = 1 }
-act r b S (isOpen σ) = record { kind = Refuted σ; unspent = b; closed-ones = 0 }
-act r b S isFull = record { kind = Full; unspent = b; closed-ones = 0 }
-act r b S isSpent = record { kind = Spent; unspent = b; closed-ones = 0 }
+act r b S (isClosed k) = record { kind = Theorem; unspent = b; closings = 1 }
+act r b S (isOpen σ) = record { kind = Refuted σ; unspent = b; closings = 0 }
+act r b S isFull = record { kind = Full; unspent = b; closings = 0 }
+act r b S isSpent = record { kind = Spent; unspent = b; closings = 0 }
 act r b S (isDue s i x) = pass r (b - 1) (premises s i x S)
 
 abbrev pub runBy : ℕ → ℕ → Sequent → Outcome
-runBy zero b S = record { kind = Full; unspent = b; closed-ones = 0 }
+runBy zero b S = record { kind = Full; unspent = b; closings = 0 }
 runBy (suc n) b S = act (λ l P. runBy n l P) b S (inner b S)
 
 abbrev pub run : ℕ → Sequent → Outcome

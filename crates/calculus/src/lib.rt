@@ -39,9 +39,22 @@ pub enum Kind {
     Full,
 }
 
+// What a run under a budget comes to: its kind, the reductions left and the sequents closed.
+pub struct Outcome {
+    pub kind: Kind,
+    pub unspent: u64,
+    pub closings: u64,
+}
+
 // A verdict carries its kind, and beside it the two counts.
 pub struct Verdict {
     pub kind: Kind,
     pub reductions: u64,
     pub closings: u64,
+}
+
+// A part of a question's bytes.
+pub struct Part {
+    pub start: usize,
+    pub count: usize,
 }

@@ -1,0 +1,4 @@
+-- The laws behind the functions' proofs. Assumes nothing.
+pub mod Readers
+pub mod Walks
+pub mod Questions

@@ -1,0 +1,150 @@
+-- The sides of an accepted question, and its formulas, where they stand in the bytes.
+-- Assumes nothing.
+use mathlib.Core.Path.{_≡_, refl, sym, ap, _∙_}
+use mathlib.Core.Option.{Option, none, some}
+use mathlib.Core.List.{List, [], _∷_, _++_, append-assoc, append-nil}
+use Prim.Native.Nat.{ℕ, zero, suc, _+_, _-_, _≤_, _<_}
+use native.Mathlib.Decide.{decLt}
+use native.Mathlib.Omega.{arith}
+use lib.ListN.{length, take, drop, getD, getElem?, length-append, length-drop}
+use lib.Seq.{drop-drop, drop-append-add, getD-append-add, take-append-seam, drop-append-seam, take-length, drop-nil}
+use Rattle.calculus.specs.declared.Side.{Side}
+use Rattle.calculus.specs.declared.Side.the-variants.{Left, Right}
+use Rattle.calculus.specs.declared.Part.{Part}
+use Rattle.calculus.specs.Syntax.{Formula, Sequent, on-side}
+use Rattle.calculus.specs.Bytes.{encode, encodeAll, encodeSide, encodeSequent, formulas, bytes, bytesAll, question, sideStart, startOf}
+use Rattle.calculus.specs.Reading.{Reading, accepted, refused, reading}
+use Rattle.calculus.specs.Reply.{partOf, partIf, formulaPart, ownBytes, formulaBytes}
+use Rattle.calculus.proofs.Readings.{accepted-question}
+use Rattle.question.specs.declared.Reading.{Reading as Answer}
+use Rattle.question.specs.declared.Reading.the-variants.{Accepted, Refused}
+use Rattle.question.specs.Answers.{numberOf, placeOf, readingOf}
+use Rattle.question.specs.Positions.{Well, firstOf, formulaAt, endOf, partBytes}
+use Rattle.question.proofs.Walks.{skip-formulas, end-inside}
+
+-- a side's formulas are those spelt from where it starts
+pub side-formulas : (q : List ℕ) (s : Side) → formulas (drop (sideStart s (question q)) q) ≡ on-side s (question q)
+side-formulas q Left = refl
+side-formulas q Right = refl
+
+module _ (q : List ℕ) (a : reading q ≡ accepted) where
+  coded : encodeSequent (question q) ≡ q
+  coded = accepted-question q a .1
+
+  -- the byte before a side's formulas counts them
+  pub side-count : (s : Side) → getD q (sideStart s (question q) - 1) 0 ≡ length (on-side s (question q))
+  side-count Left = ap (λ (l : List ℕ). getD l 1 0) (sym coded)
+  side-count Right =
+      let S = question q in
+      let n : 4 + bytesAll (S .on-left) - 1 ≡ length (encodeSide Left (S .on-left)) + 1 = omega arith in
+      ap (λ (l : List ℕ). getD l (4 + bytesAll (S .on-left) - 1) 0) (sym coded) ∙ ap (λ (k : ℕ). getD (encodeSequent S) k 0) n
+      ∙ getD-append-add (encodeSide Left (S .on-left)) (encodeSide Right (S .on-right)) 1 0
+
+  pub side-inside : (s : Side) → (1 ≤ sideStart s (question q)) × (sideStart s (question q) ≤ length q)
+  side-inside s = go s (ap length coded)
+    where
+      go : (s : Side) → length (encodeSequent (question q)) ≡ length q → (1 ≤ sideStart s (question q)) × (sideStart s (question q) ≤ length q)
+      go Left h = (omega arith, omega (arith, length-append (encodeSide Left (question q .on-left)) (encodeSide Right (question q .on-right))))
+      go Right h = (omega arith, omega (arith, length-append (encodeSide Left (question q .on-left)) (encodeSide Right (question q .on-right))))
+
+  -- from there on they are written out
+  pub side-written : (s : Side) → (t : List ℕ) × (drop (sideStart s (question q)) q ≡ encodeAll (on-side s (question q)) ++ t)
+  side-written Left = (encodeSide Right (question q .on-right), ap (drop 2) (sym coded))
+  side-written Right =
+      let S = question q in
+      let n : 4 + bytesAll (S .on-left) ≡ length (encodeSide Left (S .on-left)) + 2 = omega arith in (
+        [],
+        ap (λ (l : List ℕ). drop (4 + bytesAll (S .on-left)) l) (sym coded) ∙ ap (λ (k : ℕ). drop k (encodeSequent S)) n
+            ∙ drop-append-add (encodeSide Left (S .on-left)) (encodeSide Right (S .on-right)) 2 ∙ sym (append-nil (encodeAll (S .on-right))),
+      )
+
+  -- where the right side starts, from the left side's count
+  pub right-start : (n r : ℕ) → n ≡ getD q 1 0 → r ≡ 2 + bytesAll (take n (formulas (drop 2 q))) → r + 2 ≡ sideStart Right (question q)
+  right-start n r e h =
+      let k : n ≡ length (question q .on-left) = e ∙ side-count Left in
+      let t : take n (question q .on-left) ≡ question q .on-left = rw k (take-length (question q .on-left)) in
+      omega (arith, rw t at h)
+
+-- ---- the formula at a place
+
+pub element-first : (xs : List Formula) (i : ℕ) → i < length xs → getElem? xs i ≡ some (firstOf (drop i xs))
+element-first [] i h = absurd (omega arith)
+element-first (x ∷ xs) zero h = refl
+element-first (x ∷ xs) (suc i) h = element-first xs i (omega arith)
+
+pub element-none : (xs : List Formula) (i : ℕ) → length xs ≤ i → getElem? xs i ≡ none
+element-none [] i h = refl
+element-none (x ∷ xs) zero h = absurd (omega arith)
+element-none (x ∷ xs) (suc i) h = element-none xs i (omega arith)
+
+-- what stands where a side's formula starts
+pub place-formulas : (q : List ℕ) (s : Side) (i : ℕ) → i ≤ length (on-side s (question q))
+    → formulas (drop (startOf s i (question q)) q) ≡ drop i (on-side s (question q))
+place-formulas q s i h =
+    let e = side-formulas q s in
+    let k = skip-formulas q (sideStart s (question q)) i (rw e h) in
+    rw e at k
+
+drop-written : (xs : List Formula) (i : ℕ) (t : List ℕ) → drop (bytesAll (take i xs)) (encodeAll xs ++ t) ≡ encodeAll (drop i xs) ++ t
+drop-written xs zero t = refl
+drop-written [] (suc i) t = refl
+drop-written (x ∷ xs) (suc i) t =
+    rw (append-assoc (encode x) (encodeAll xs) t, length-append (encode x) (encodeAll (take i xs)))
+    (drop-append-add (encode x) (encodeAll xs ++ t) (bytesAll (take i xs)) ∙ drop-written xs i t)
+
+written-first : (ys : List Formula) (t : List ℕ) → 1 ≤ length ys → take (bytes (firstOf ys)) (encodeAll ys ++ t) ≡ encode (firstOf ys)
+written-first [] t h = absurd (omega arith)
+written-first (y ∷ ys) t h = rw (append-assoc (encode y) (encodeAll ys) t) (take-append-seam (encode y) (encodeAll ys ++ t))
+
+module _ (q : List ℕ) (a : reading q ≡ accepted) (s : Side) (i : ℕ) (h : i < length (on-side s (question q))) where
+  pub place-well : Well q (startOf s i (question q))
+  place-well = rw (place-formulas q s i (omega arith)) (omega (arith, length-drop i (on-side s (question q))))
+
+  pub place-part : formulaPart q s i ≡ record { start = startOf s i (question q); count = bytes (formulaAt q (startOf s i (question q))) }
+  place-part = rw (a, element-first (on-side s (question q)) i h, place-formulas q s i (omega arith))
+
+  own-part : take (bytes (firstOf (drop i (on-side s (question q))))) (drop (startOf s i (question q)) q) ≡ encode (firstOf (drop i (on-side s (question q))))
+  own-part =
+      let xs = on-side s (question q) in
+      let w = side-written q a s in
+      rw (← drop-drop (bytesAll (take i xs)) (sideStart s (question q)) q, w .1, drop-written xs i (w .0))
+      (written-first (drop i xs) (w .0) (omega (arith, length-drop i xs)))
+
+  pub part-own : partBytes (formulaPart q s i) q ≡ formulaBytes q s i
+  part-own = rw (a, element-first (on-side s (question q)) i h) own-part
+
+-- ---- the part handed out, for every question and place
+
+pub part-refused : (q : List ℕ) (s : Side) (i n p : ℕ) → reading q ≡ refused n p → record { start = 0; count = 0 } ≡ formulaPart q s i
+part-refused q s i n p e = rw e
+
+pub part-none : (q : List ℕ) → reading q ≡ accepted → (s : Side) (i : ℕ) → length (on-side s (question q)) ≤ i → record { start = 0; count = 0 } ≡ formulaPart q s i
+part-none q a s i h = rw (a, element-none (on-side s (question q)) i h)
+
+pub record Handed (q : List ℕ) (s : Side) (i : ℕ) : Type 0 where
+  pub inside : formulaPart q s i .start + formulaPart q s i .count ≤ length q
+  pub own : partBytes (formulaPart q s i) q ≡ formulaBytes q s i
+
+handed-accepted : (q : List ℕ) → reading q ≡ accepted → (s : Side) (i : ℕ) → Dec (i < length (on-side s (question q))) → Handed q s i
+handed-accepted q a s i (yes h) =
+    record {
+      inside = rw (place-part q a s i h) (end-inside q (startOf s i (question q)) (place-well q a s i h));
+      own = part-own q a s i h;
+    }
+handed-accepted q a s i (no h) =
+    record {
+      inside = rw (← part-none q a s i (omega arith)) (omega arith);
+      own = rw (a, element-none (on-side s (question q)) i (omega arith));
+    }
+
+pub handed : (q : List ℕ) (s : Side) (i : ℕ) → Handed q s i
+handed q s i = go (reading q) refl
+  where
+    go : (r : Reading) → reading q ≡ r → Handed q s i
+    go accepted e = handed-accepted q e s i (decLt i (length (on-side s (question q))))
+    go (refused n p) e = record { inside = rw e (omega arith); own = rw e }
+
+-- by the code's answer
+pub part-refused-by : (q : List ℕ) (s : Side) (i : ℕ) (r : Answer) → readingOf r ≡ reading q → (r ≡ Accepted → ⊥) → record { start = 0; count = 0 } ≡ formulaPart q s i
+part-refused-by q s i Accepted e n = absurd (n refl)
+part-refused-by q s i (Refused w) e n = part-refused q s i (numberOf w) (placeOf w) (sym e)

@@ -1,0 +1,38 @@
+-- The formula at a position of a question's bytes.
+use mathlib.Core.List.{List, [], _∷_}
+use Prim.Native.Nat.{ℕ, _+_, _-_, _≤_}
+use lib.Dec.{eqb}
+use lib.ListN.{length, take, drop}
+use Rattle.calculus.specs.declared.Part.{Part}
+use Rattle.calculus.specs.Fold.{choose}
+use Rattle.calculus.specs.Syntax.{Formula, letter}
+use Rattle.calculus.specs.Bytes.{formulas, bytes}
+
+-- a formula stands there
+abbrev pub Well : List ℕ → ℕ → Type 0
+Well q at = 1 ≤ length (formulas (drop at q))
+
+abbrev pub firstOf : List Formula → Formula
+firstOf [] = letter 0
+firstOf (x ∷ xs) = x
+
+abbrev pub formulaAt : List ℕ → ℕ → Formula
+formulaAt q at = firstOf (formulas (drop at q))
+
+-- the position behind it
+abbrev pub endOf : List ℕ → ℕ → ℕ
+endOf q at = at + bytes (formulaAt q at)
+
+-- ---- a walk over commands, d formulas being due
+
+-- the bytes of a command with its operand
+abbrev pub commandLength : ℕ → ℕ
+commandLength b = choose (eqb b 1) 2 1
+
+-- the formulas due after a command
+abbrev pub dueAfter : ℕ → ℕ → ℕ
+dueAfter d b = choose (eqb b 1) (d - 1) (choose (eqb b 2) d (d + 1))
+
+-- the bytes of a part
+abbrev pub partBytes : Part → List ℕ → List ℕ
+partBytes p q = take (p .count) (drop (p .start) q)
