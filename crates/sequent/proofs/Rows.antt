@@ -1,0 +1,21 @@
+-- The ten rows of the table, one by one.
+-- Assumes nothing.
+use mathlib.Core.Path.{_≡_, refl}
+use Rattle.calculus.specs.declared.Side.{Side}
+use Rattle.calculus.specs.declared.Side.the-variants.{Left, Right}
+use Rattle.calculus.specs.Syntax.{AND, OR, IMPLIES, EQUIV, Connective, NOT, two}
+
+pub ten : {Q : Type 0} (k : Connective) (s : Side)
+    → (k ≡ NOT → s ≡ Left → Q) → (k ≡ NOT → s ≡ Right → Q) → (k ≡ two AND → s ≡ Left → Q) → (k ≡ two AND → s ≡ Right → Q)
+    → (k ≡ two OR → s ≡ Left → Q) → (k ≡ two OR → s ≡ Right → Q) → (k ≡ two IMPLIES → s ≡ Left → Q) → (k ≡ two IMPLIES → s ≡ Right → Q)
+    → (k ≡ two EQUIV → s ≡ Left → Q) → (k ≡ two EQUIV → s ≡ Right → Q) → Q
+ten NOT Left a b c d e f g h i j = a refl refl
+ten NOT Right a b c d e f g h i j = b refl refl
+ten (two AND) Left a b c d e f g h i j = c refl refl
+ten (two AND) Right a b c d e f g h i j = d refl refl
+ten (two OR) Left a b c d e f g h i j = e refl refl
+ten (two OR) Right a b c d e f g h i j = f refl refl
+ten (two IMPLIES) Left a b c d e f g h i j = g refl refl
+ten (two IMPLIES) Right a b c d e f g h i j = h refl refl
+ten (two EQUIV) Left a b c d e f g h i j = i refl refl
+ten (two EQUIV) Right a b c d e f g h i j = j refl refl

@@ -1,0 +1,3 @@
+-- The running sequent: what its fields stand for, and what its methods give.
+pub mod View
+pub mod Rule
