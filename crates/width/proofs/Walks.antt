@@ -23,12 +23,12 @@ use Rattle.width.specs.Walks.{sideOf, joined, Fit, pairOf, walkOf}
 
 -- ---- the pair of a joined formula
 
+pub side-width : (s : Side) (x : Formula) → sideOf (pairOf x) s ≡ width s x
+side-width Left x = refl
+side-width Right x = refl
+
 sides : (x : Formula) → sideOf (pairOf x) ≡ (λ s. width s x)
-sides x = fun-ext go
-  where
-    go : (s : Side) → sideOf (pairOf x) s ≡ width s x
-    go Left = refl
-    go Right = refl
+sides x = fun-ext (λ s. side-width s x)
 
 join-pair : (o : Binary) (x y : Formula) → joined o (pairOf x) (pairOf y) ≡ pairOf (join o x y)
 join-pair o x y = rw (sides x, sides y)
