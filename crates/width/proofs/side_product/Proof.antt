@@ -1,22 +1,20 @@
-use borrow.Author.Needs.{needs}
+-- `width::side_product` meets its contract: the formulas from the side's start, as many as its count says, are the side.
+-- Assumes nothing.
+use mathlib.Core.Path.{_≡_, _∙_}
+use Rattle.width.proofs.Answers.{SideRead, side-read}
 use Rattle.width.proofs.side_product.Statement.{statement}
 use Rattle.width.proofs.side_product.Tie as tie
-use Rattle.width.proofs.side_product.Reads as reads
-use Rattle.width.proofs.side_product.Lts as lts
-use Rattle.question.proofs.side_count.Reads as side-count-reads
-use Rattle.width.proofs.formulas_product.Reads as formulas-product-reads
 
--- src/lib.rt:145:9
-side-count-requires : tie.Need-side-count-requires
-side-count-requires c κs = search needs
-
--- src/lib.rt:146:5
-formulas-product-requires : tie.Need-formulas-product-requires
-formulas-product-requires c κs = ?
-
--- src/lib.rt:141:1
-returns : tie.Need-returns
-returns c = ?
+read-now : (c : tie.After-side-count) → SideRead (c .before .before .args .q .now) (c .before .before .args .side) (c .before .before .args .start) (c .side-count .result)
+read-now c =
+    let s = c .before .before in
+    let a = s .args in
+    side-read (a .q .now) (s .pre .0) (a .side) (a .start) (c .side-count .result) (s .pre .1) (c .side-count .ensures)
 
 pub side-product-spec : {M : Type 1} → statement M
-side-product-spec = tie.close (tie.spec side-count-requires formulas-product-requires returns)
+side-product-spec =
+    tie.close
+    (tie.spec
+    (λ c κs. c .before .pre)
+    (λ c κs. let r = read-now c in (r .enough, rw (r .all) (r .counted)))
+    (λ c. rw (read-now (c .before) .all) at (c .formulas-product .ensures)))

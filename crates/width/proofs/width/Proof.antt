@@ -1,68 +1,48 @@
+-- `width::width` meets its contract: both sides' products give W and c, which are within their bounds.
+-- Assumes nothing.
+use mathlib.Core.Path.{_≡_, sym, ap, _∙_}
+use Prim.Native.Nat.{_+_, _*_}
+use native.Mathlib.Omega.{arith}
 use borrow.Author.Needs.{needs}
+use Rattle.calculus.specs.declared.Side.the-variants.{Left, Right}
+use Rattle.calculus.specs.Bytes.{question, sideStart}
+use Rattle.calculus.specs.Reading.{accepted, reading}
+use Rattle.question.specs.Answers.{readingOf}
+use Rattle.question.proofs.Questions.{side-inside}
+use Rattle.width.specs.Answers.{Sized}
+use Rattle.width.proofs.Answers.{sized, sized-fits, answer-sized, answer-refused}
 use Rattle.width.proofs.width.Statement.{statement}
 use Rattle.width.proofs.width.Tie as tie
-use Rattle.width.proofs.width.Reads as reads
-use Rattle.width.proofs.width.Lts as lts
-use Rattle.question.proofs.read.Reads as read-reads
-use Rattle.question.proofs.side_start.Reads as side-start-reads
-use Rattle.width.proofs.side_product.Reads as side-product-reads
 
--- src/lib.rt:160:9
-read-requires : tie.Need-read-requires
-read-requires c κs = search needs
+accepted-now : (c : tie.After-enum-told) → reading (c .before .before .before .before .args .q .now) ≡ accepted
+accepted-now c = sym (c .before .before .read .ensures) ∙ ap readingOf (c .enum-told .given .1)
 
--- src/lib.rt:162:26
-enum-known-reading : tie.Need-enum-known-reading
-enum-known-reading c = search needs
+-- the right side starts two bytes behind the left one's formulas
+right-now : (c : tie.After-struct-known) → c .before .side-product .result .end + 2 ≡ sideStart Right (question (c .before .before .before .before .before .before .before .args .q .now))
+right-now c = rw (c .before .side-product .ensures) (omega (arith, c .before .before .side-start .ensures))
 
--- src/lib.rt:164:49
-enum-told : tie.Need-enum-told
-enum-told c = search needs
-
--- src/lib.rt:164:17
-side-start-requires : tie.Need-side-start-requires
-side-start-requires c κs = ?
-
--- src/lib.rt:165:17
-side-product-requires : tie.Need-side-product-requires
-side-product-requires c κs = ?
-
--- src/lib.rt:166:54
-add-side-product : tie.Need-add-side-product
-add-side-product c = ?
-
--- src/lib.rt:166:17
-side-product-requires-2 : tie.Need-side-product-requires-2
-side-product-requires-2 c κs = ?
-
--- src/lib.rt:168:17
-mul-t10 : tie.Need-mul-t10
-mul-t10 c = ?
-
--- src/lib.rt:169:17
-add-t11 : tie.Need-add-t11
-add-t11 c = ?
-
--- src/lib.rt:156:1
-returns : tie.Need-returns
-returns c = ?
-
--- src/lib.rt:156:1
-returns-2 : tie.Need-returns-2
-returns-2 c = ?
+sized-now : (c : tie.After-side-product2) →
+    let l = c .before .before .side-product .result in
+    let r = c .side-product2 .result in
+    Sized (c .before .before .before .before .before .before .before .before .args .q .now) (l .width * r .width) (l .connectives + r .connectives)
+sized-now c =
+    let l = c .before .before .side-product in
+    let r = c .side-product2 in
+    sized (c .before .before .before .before .before .before .before .before .args .q .now) (accepted-now (c .before .before .before .before)) (c .before .before .before .side-start .result) (l .result .end + 2) (l .result) (r .result) (l .ensures) (r .ensures)
 
 pub width-spec : {M : Type 1} → statement M
 width-spec =
     tie.close
     (tie.spec
-    read-requires
-    enum-known-reading
-    enum-told
-    side-start-requires
-    side-product-requires
-    add-side-product
-    side-product-requires-2
-    mul-t10
-    add-t11
-    returns
-    returns-2)
+    (λ c κs. tt)
+    (λ c. search needs)
+    (λ c. search needs)
+    (λ c κs. accepted-now c)
+    (λ c κs. (accepted-now (c .before), c .side-start .ensures))
+    (λ c. rw (right-now c) (omega (arith, side-inside (c .before .before .before .before .before .before .before .args .q .now) (accepted-now (c .before .before .before)) Right)))
+    (λ c κs. (accepted-now (c .before .before .before), right-now c))
+    (λ c. omega (arith, sized-fits (c .before .before .before .before .before .before .before .before .before .before .args .q .now) (accepted-now (c .before .before .before .before .before .before)) _ _ (sized-now (c .before .before)) .0))
+    (λ c. omega (arith, sized-fits (c .before .before .before .before .before .before .before .before .before .before .before .before .args .q .now) (accepted-now (c .before .before .before .before .before .before .before .before)) _ _ (sized-now (c .before .before .before .before)) .1))
+    (λ c.
+    answer-refused (c .before .before .before .before .before .args .q .now) (c .before .reading .given .0 .0) (rw (c .before .reading .given .1) at (c .before .before .before .read .ensures)))
+    (λ c. answer-sized (c .before .before .before .before .before .before .before .before .before .before .before .before .args .q .now) (accepted-now (c .before .before .before .before .before .before .before .before)) _ _ (sized-now (c .before .before .before .before))))
