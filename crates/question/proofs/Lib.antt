@@ -1,4 +1,5 @@
 -- The laws behind the functions' proofs. Assumes nothing.
 pub mod Readers
 pub mod Walks
+pub mod Parts
 pub mod Questions
