@@ -78,7 +78,7 @@ fn large_trees() {
 /// A question whose width is as large as a width gets: 2 to the power 48.
 #[test]
 fn the_largest_width() {
-    // 16 on each side; EQUIV chains have width 2 to the power of their connectives.
+    // EQUIV alone makes a width of 2 to the power of the connectives; here on 16 formulas.
     let mut bytes = vec![0x10, 16];
     for _ in 0..16 {
         bytes.extend([6, 6, 6, 1, 0, 1, 0, 1, 0, 1, 0]);
@@ -90,4 +90,11 @@ fn the_largest_width() {
     let size = gekunday::width(&bytes).unwrap();
     assert_eq!(size.reductions_bound(), 48 << 48);
     assert_eq!(size.derivation_bound(), 98 << 48);
+
+    // The same width in one formula, on either side.
+    let one = [&[6; 48][..], &[1, 0].repeat(49)].concat();
+    for question in [[&[0x10, 1][..], &one, &[0x20, 0]].concat(), [&[0x10, 0, 0x20, 1][..], &one].concat()] {
+        assert_eq!(common::calls::width(&question), (0, [1 << 48, 48]));
+        examine(&question, &mut Prng::new(7), 1_000, &mut seen);
+    }
 }

@@ -164,6 +164,7 @@ fn wrapped_derive(bytes: &[u8], tree: &tree::Tree, budget: u64) {
     let room = tree.derivation.len() + 3;
     let mut buffer = vec![0xee; room];
     let answer = gekunday::derive(bytes, budget, &mut buffer);
+    assert_eq!(answer.map_or_else(NotWritten::number, |_| 0), tree.derived(budget, room).0);
     match tree.derived(budget, room) {
         (0, [_, reductions, closings]) => {
             let written = answer.unwrap();
@@ -176,6 +177,10 @@ fn wrapped_derive(bytes: &[u8], tree: &tree::Tree, budget: u64) {
             assert_eq!(answer, Err(NotWritten::NotProved { state: state as u32, reductions, closings }));
         }
         other => panic!("not expected here: {:?}", other),
+    }
+    if let (11, [needed, ..]) = tree.derived(budget, 1) {
+        let short = gekunday::derive(bytes, budget, &mut [0; 1]).unwrap_err();
+        assert_eq!((short, short.number()), (NotWritten::NoSpace { needed }, 11));
     }
 }
 
