@@ -1,0 +1,48 @@
+#!/usr/bin/env bash
+# Installs the header, the archive and a pkg-config file into a prefix:
+#
+#     ./install.sh PREFIX
+#     cc $(PKG_CONFIG_PATH=PREFIX/lib/pkgconfig pkg-config --cflags --libs gekunday) ...
+#
+# The archive is target/staticlib/libgekunday.a; where it is missing, `rt staticlib gekunday` proves and builds it.
+# DESTDIR is honoured: files go under $DESTDIR$PREFIX, and the pkg-config file names PREFIX.
+set -euo pipefail
+
+if [ $# -ne 1 ] || [ -z "$1" ]; then
+    echo "usage: $0 PREFIX" >&2
+    exit 2
+fi
+
+root=$(cd "$(dirname "$0")" && pwd)
+case $1 in
+    /*) prefix=$1 ;;
+    *) prefix=$PWD/$1 ;;
+esac
+prefix=${prefix%/}
+into=${DESTDIR:-}$prefix
+
+archive=$root/target/staticlib/libgekunday.a
+if [ ! -f "$archive" ]; then
+    (cd "$root" && rt staticlib gekunday)
+fi
+
+mkdir -p "$into/include" "$into/lib/pkgconfig"
+install -m 644 "$root/include/gekunday.h" "$into/include/gekunday.h"
+install -m 644 "$archive" "$into/lib/libgekunday.a"
+
+# The dollars are pkg-config's own.
+# shellcheck disable=SC2016
+{
+    echo "prefix=$prefix"
+    echo 'includedir=${prefix}/include'
+    echo 'libdir=${prefix}/lib'
+    echo
+    echo 'Name: gekunday'
+    echo "Description: Decides propositional sequents by Wang's method"
+    echo 'Version: 0.1.0'
+    echo 'Cflags: -I${includedir}'
+    echo 'Libs: -L${libdir} -lgekunday'
+} > "$into/lib/pkgconfig/gekunday.pc"
+chmod 644 "$into/lib/pkgconfig/gekunday.pc"
+
+echo "installed: include/gekunday.h, lib/libgekunday.a, lib/pkgconfig/gekunday.pc"

@@ -1,0 +1,505 @@
+//! Decides propositional sequents by Wang's method. This is a safe wrapper of the proved library `libgekunday.a`.
+//!
+//! A *question* is a sequent in bytes: a left side and a right side, each a list of formulas over the letters 0 to 31.
+//! In a state (which letters are true) it is true if some left formula is false or some right formula is true. If it is
+//! true in every state, it is a *theorem*; otherwise it is *refuted*, by a state that is handed back.
+//!
+//! | bytes | meaning |
+//! |---|---|
+//! | `10 n` | left side, `n` formulas follow (0 to 16) |
+//! | `20 m` | right side, `m` formulas follow (0 to 16) |
+//! | `01 k` | letter `k` (0 to 31) |
+//! | `02` | NOT, one formula follows |
+//! | `03`, `04`, `05`, `06` | AND, OR, IMPLIES, EQUIV, two formulas follow |
+//!
+//! A question is the left side, then the right side, and nothing more; it has at most 48 connectives, so at most 212
+//! bytes.
+//!
+//! ```
+//! use gekunday::{check, decide, derive, width, Kind};
+//!
+//! // From NOT (P OR Q) follows NOT P (Principia 2.45).
+//! let question = [0x10, 1, 0x02, 0x04, 0x01, 0, 0x01, 1, 0x20, 1, 0x02, 0x01, 0];
+//!
+//! // The width bounds the work before any is done.
+//! let size = width(&question)?;
+//! assert_eq!((size.width, size.connectives, size.reductions_bound()), (1, 3, 3));
+//!
+//! let verdict = decide(&question, size.reductions_bound())?;
+//! assert_eq!(verdict.kind, Kind::Theorem);
+//! assert_eq!((verdict.reductions, verdict.closings), (3, 1));
+//!
+//! let mut buffer = [0; 64];
+//! let written = derive(&question, size.reductions_bound(), &mut buffer).unwrap();
+//! assert_eq!(written.derivation, [0x52, 0, 0x62, 0, 0x64, 0, 0x41, 0]);
+//! assert_eq!(check(&question, written.derivation), Ok(()));
+//! # Ok::<(), gekunday::Refusal>(())
+//! ```
+//!
+//! No call panics, uses a heap or keeps anything between calls. What the answers mean is proved of the library; this
+//! wrapper only gives them types. A reply that the library's contract excludes would never read as a theorem, as a
+//! derivation written or as one that passes.
+
+#![no_std]
+#![deny(unsafe_op_in_unsafe_fn, missing_docs)]
+#![warn(clippy::undocumented_unsafe_blocks)]
+
+use core::error::Error;
+use core::fmt;
+
+pub mod raw;
+
+/// Bytes of the longest question.
+pub const QUESTION_MAX: usize = 212;
+/// Formulas that a side may have.
+pub const FORMULAS_MAX: usize = 16;
+/// Connectives that a question may have over both sides.
+pub const CONNECTIVES_MAX: usize = 48;
+/// Letters are numbered from 0 to 31.
+pub const LETTERS: usize = 32;
+
+/// A side of a sequent.
+#[derive(Clone, Copy, Debug, PartialEq, Eq, Hash)]
+pub enum Side {
+    /// The left side.
+    Left,
+    /// The right side.
+    Right,
+}
+
+/// Why bytes are no question. Each case holds the place, counted from 0, of the byte that decides.
+///
+/// [`TooLong`](Refusal::TooLong) comes before all; otherwise the earliest, reading from the first byte on, decides.
+#[derive(Clone, Copy, Debug, PartialEq, Eq, Hash)]
+pub enum Refusal {
+    /// 1: more than 212 bytes. The place is 212.
+    TooLong(u64),
+    /// 2: the bytes end where a command or operand is due. The place is their length.
+    Cut(u64),
+    /// 3: a byte that may not come there.
+    WrongCommand(u64),
+    /// 4: a side's count is over 16. The place is the operand's.
+    ManyFormulas(u64),
+    /// 5: a letter over 31. The place is the operand's.
+    NoSuchLetter(u64),
+    /// 6: the 49th connective.
+    ManyConnectives(u64),
+    /// 7: bytes follow the last formula. The place is that of the first such byte.
+    LeftOver(u64),
+}
+
+impl Refusal {
+    /// The library's number, 1 to 7.
+    ///
+    /// ```
+    /// let refusal = gekunday::width(&[]).unwrap_err();
+    /// assert_eq!(refusal, gekunday::Refusal::Cut(0));
+    /// assert_eq!((refusal.number(), refusal.place()), (2, 0));
+    /// ```
+    pub const fn number(self) -> u32 {
+        match self {
+            Refusal::TooLong(_) => 1,
+            Refusal::Cut(_) => 2,
+            Refusal::WrongCommand(_) => 3,
+            Refusal::ManyFormulas(_) => 4,
+            Refusal::NoSuchLetter(_) => 5,
+            Refusal::ManyConnectives(_) => 6,
+            Refusal::LeftOver(_) => 7,
+        }
+    }
+
+    /// The place in the question, counted from 0.
+    pub const fn place(self) -> u64 {
+        match self {
+            Refusal::TooLong(place)
+            | Refusal::Cut(place)
+            | Refusal::WrongCommand(place)
+            | Refusal::ManyFormulas(place)
+            | Refusal::NoSuchLetter(place)
+            | Refusal::ManyConnectives(place)
+            | Refusal::LeftOver(place) => place,
+        }
+    }
+
+    /// The library gives no other number than 1 to 7 here; whatever it gave, a refusal stays a refusal.
+    const fn of(number: u32, place: u64) -> Refusal {
+        match number {
+            1 => Refusal::TooLong(place),
+            2 => Refusal::Cut(place),
+            3 => Refusal::WrongCommand(place),
+            4 => Refusal::ManyFormulas(place),
+            5 => Refusal::NoSuchLetter(place),
+            6 => Refusal::ManyConnectives(place),
+            _ => Refusal::LeftOver(place),
+        }
+    }
+}
+
+impl fmt::Display for Refusal {
+    fn fmt(&self, f: &mut fmt::Formatter<'_>) -> fmt::Result {
+        let why = match self {
+            Refusal::TooLong(_) => "too long",
+            Refusal::Cut(_) => "cut",
+            Refusal::WrongCommand(_) => "wrong command",
+            Refusal::ManyFormulas(_) => "many formulas",
+            Refusal::NoSuchLetter(_) => "no such letter",
+            Refusal::ManyConnectives(_) => "many connectives",
+            Refusal::LeftOver(_) => "left over",
+        };
+        write!(f, "refused: {} at {}", why, self.place())
+    }
+}
+
+impl Error for Refusal {}
+
+/// How a run ended.
+#[derive(Clone, Copy, Debug, PartialEq, Eq, Hash)]
+pub enum Kind {
+    /// True in every state.
+    Theorem,
+    /// False in this state: bit `k` is set exactly if letter `k` is true. It makes each left formula true and each
+    /// right formula false.
+    Refuted(u32),
+    /// The question takes more reductions than the budget.
+    Spent,
+    /// A premise would hold more than 80 formulas. Within the limits of a question this does not happen.
+    Full,
+}
+
+/// The answer of [`decide`].
+#[derive(Clone, Copy, Debug, PartialEq, Eq, Hash)]
+pub struct Verdict {
+    /// How the run ended.
+    pub kind: Kind,
+    /// Reductions made.
+    pub reductions: u64,
+    /// Sequents closed.
+    pub closings: u64,
+}
+
+/// The answer of [`width`].
+#[derive(Clone, Copy, Debug, PartialEq, Eq, Hash)]
+pub struct Width {
+    /// The width W.
+    pub width: u64,
+    /// The connectives c.
+    pub connectives: u64,
+}
+
+impl Width {
+    /// c times W: no run makes more reductions, so this budget is never spent.
+    pub const fn reductions_bound(self) -> u64 {
+        self.connectives.saturating_mul(self.width)
+    }
+
+    /// W: no run closes more sequents.
+    pub const fn closings_bound(self) -> u64 {
+        self.width
+    }
+
+    /// 2 (c W + W): a derivation has no more bytes.
+    pub const fn derivation_bound(self) -> u64 {
+        self.reductions_bound().saturating_add(self.closings_bound()).saturating_mul(2)
+    }
+}
+
+/// The answer of [`derive`] when the derivation was written.
+#[derive(Clone, Copy, Debug, PartialEq, Eq, Hash)]
+pub struct Written<'b> {
+    /// The derivation: the first bytes of the lent buffer.
+    pub derivation: &'b [u8],
+    /// Reductions made.
+    pub reductions: u64,
+    /// Sequents closed.
+    pub closings: u64,
+}
+
+/// Why [`derive`] wrote nothing.
+#[derive(Clone, Copy, Debug, PartialEq, Eq, Hash)]
+pub enum NotWritten {
+    /// 1 to 7: the question is refused.
+    Refused(Refusal),
+    /// 8: a premise would hold more than 80 formulas.
+    Full {
+        /// Reductions made.
+        reductions: u64,
+        /// Sequents closed.
+        closings: u64,
+    },
+    /// 9: the question takes more reductions than the budget.
+    Spent {
+        /// Reductions made: the budget.
+        reductions: u64,
+        /// Sequents closed.
+        closings: u64,
+    },
+    /// 10: the question is refuted.
+    NotProved {
+        /// The refuting state, as in [`Kind::Refuted`].
+        state: u32,
+        /// Reductions made.
+        reductions: u64,
+        /// Sequents closed.
+        closings: u64,
+    },
+    /// 11: the buffer is shorter than the derivation.
+    NoSpace {
+        /// Bytes that the derivation has.
+        needed: u64,
+    },
+}
+
+impl NotWritten {
+    /// The library's number: 1 to 11.
+    pub const fn number(self) -> u32 {
+        match self {
+            NotWritten::Refused(refusal) => refusal.number(),
+            NotWritten::Full { .. } => 8,
+            NotWritten::Spent { .. } => 9,
+            NotWritten::NotProved { .. } => 10,
+            NotWritten::NoSpace { .. } => 11,
+        }
+    }
+}
+
+impl fmt::Display for NotWritten {
+    fn fmt(&self, f: &mut fmt::Formatter<'_>) -> fmt::Result {
+        match self {
+            NotWritten::Refused(refusal) => refusal.fmt(f),
+            NotWritten::Full { reductions, .. } => write!(f, "full after {} reductions", reductions),
+            NotWritten::Spent { reductions, .. } => write!(f, "spent after {} reductions", reductions),
+            NotWritten::NotProved { state, .. } => write!(f, "not proved: false in state {}", state),
+            NotWritten::NoSpace { needed } => write!(f, "no space: {} bytes needed", needed),
+        }
+    }
+}
+
+impl Error for NotWritten {}
+
+/// Why [`check`] does not pass a derivation. Apart from [`Refused`](NotPassed::Refused), each case holds a place in the
+/// derivation, counted from 0.
+#[derive(Clone, Copy, Debug, PartialEq, Eq, Hash)]
+pub enum NotPassed {
+    /// 1 to 7: the question is refused.
+    Refused(Refusal),
+    /// 20: fewer than two bytes are left while a sequent waits.
+    Cut(u64),
+    /// 21: an unknown command.
+    UnknownCommand(u64),
+    /// 22: no formula at that place.
+    NoFormula(u64),
+    /// 23: the formula there is a letter or has another connective.
+    OtherFormula(u64),
+    /// 24: the letter does not stand on both sides.
+    NotClosed(u64),
+    /// 25: bytes follow a complete derivation. The place is that of the first such byte.
+    LeftOver(u64),
+}
+
+impl NotPassed {
+    /// The library's number: 1 to 7 or 20 to 25.
+    pub const fn number(self) -> u32 {
+        match self {
+            NotPassed::Refused(refusal) => refusal.number(),
+            NotPassed::Cut(_) => 20,
+            NotPassed::UnknownCommand(_) => 21,
+            NotPassed::NoFormula(_) => 22,
+            NotPassed::OtherFormula(_) => 23,
+            NotPassed::NotClosed(_) => 24,
+            NotPassed::LeftOver(_) => 25,
+        }
+    }
+
+    /// The place, in the question for [`Refused`](NotPassed::Refused) and otherwise in the derivation.
+    pub const fn place(self) -> u64 {
+        match self {
+            NotPassed::Refused(refusal) => refusal.place(),
+            NotPassed::Cut(place)
+            | NotPassed::UnknownCommand(place)
+            | NotPassed::NoFormula(place)
+            | NotPassed::OtherFormula(place)
+            | NotPassed::NotClosed(place)
+            | NotPassed::LeftOver(place) => place,
+        }
+    }
+
+    const fn of(number: u32, place: u64) -> NotPassed {
+        match number {
+            20 => NotPassed::Cut(place),
+            21 => NotPassed::UnknownCommand(place),
+            22 => NotPassed::NoFormula(place),
+            23 => NotPassed::OtherFormula(place),
+            24 => NotPassed::NotClosed(place),
+            25 => NotPassed::LeftOver(place),
+            _ => NotPassed::Refused(Refusal::of(number, place)),
+        }
+    }
+}
+
+impl fmt::Display for NotPassed {
+    fn fmt(&self, f: &mut fmt::Formatter<'_>) -> fmt::Result {
+        let why = match self {
+            NotPassed::Refused(refusal) => return refusal.fmt(f),
+            NotPassed::Cut(_) => "cut",
+            NotPassed::UnknownCommand(_) => "unknown command",
+            NotPassed::NoFormula(_) => "no formula at that place",
+            NotPassed::OtherFormula(_) => "a letter or another connective at that place",
+            NotPassed::NotClosed(_) => "the letter does not stand on both sides",
+            NotPassed::LeftOver(_) => "bytes left over",
+        };
+        write!(f, "not passed: {} at {}", why, self.place())
+    }
+}
+
+impl Error for NotPassed {}
+
+/// Decides a question with at most `budget` reductions.
+///
+/// The verdict is [`Kind::Spent`] exactly if the question takes more reductions than the budget. A budget of
+/// [`Width::reductions_bound`] is never spent.
+///
+/// ```
+/// use gekunday::{decide, Kind, Refusal, Verdict};
+///
+/// // P OR Q on the left, P on the right: false where only Q is true.
+/// let question = [0x10, 1, 0x04, 0x01, 0, 0x01, 1, 0x20, 1, 0x01, 0];
+/// assert_eq!(decide(&question, 10), Ok(Verdict { kind: Kind::Refuted(0b10), reductions: 1, closings: 1 }));
+/// assert_eq!(decide(&question, 0), Ok(Verdict { kind: Kind::Spent, reductions: 0, closings: 0 }));
+/// assert_eq!(decide(&question[..9], 10), Err(Refusal::Cut(9)));
+/// ```
+pub fn decide(question: &[u8], budget: u64) -> Result<Verdict, Refusal> {
+    let mut out = [0; 4];
+    // SAFETY: the pointers and lengths are those of live slices, and `out` has 4 words.
+    let number = unsafe { raw::gekunday_decide(question.as_ptr(), question.len(), budget, out.as_mut_ptr()) };
+    let [first, state, reductions, closings] = out;
+    let kind = match (number, first) {
+        (0, 0) => Kind::Theorem,
+        (0, _) => Kind::Refuted(state as u32),
+        (8, _) => Kind::Full,
+        (9, _) => Kind::Spent,
+        _ => return Err(Refusal::of(number, first)),
+    };
+    Ok(Verdict { kind, reductions, closings })
+}
+
+/// Works out a question's width and counts its connectives, without deciding it.
+///
+/// ```
+/// // P EQUIV P on the right.
+/// let size = gekunday::width(&[0x10, 0, 0x20, 1, 0x06, 0x01, 0, 0x01, 0])?;
+/// assert_eq!((size.width, size.connectives), (2, 1));
+/// assert_eq!((size.reductions_bound(), size.closings_bound(), size.derivation_bound()), (2, 2, 8));
+/// # Ok::<(), gekunday::Refusal>(())
+/// ```
+pub fn width(question: &[u8]) -> Result<Width, Refusal> {
+    let mut out = [0; 2];
+    // SAFETY: the pointers and lengths are those of live slices, and `out` has 2 words.
+    let number = unsafe { raw::gekunday_width(question.as_ptr(), question.len(), out.as_mut_ptr()) };
+    let [first, connectives] = out;
+    match number {
+        0 => Ok(Width { width: first, connectives }),
+        _ => Err(Refusal::of(number, first)),
+    }
+}
+
+/// Hands out a formula of the question: its own bytes. The place counts from 0 on its side.
+///
+/// `None` where the question is refused or has no such place.
+///
+/// ```
+/// use gekunday::{formula, Side};
+///
+/// let question = [0x10, 1, 0x02, 0x01, 5, 0x20, 2, 0x01, 0, 0x03, 0x01, 1, 0x01, 2];
+/// assert_eq!(formula(&question, Side::Left, 0), Some(&[0x02, 0x01, 5][..]));
+/// assert_eq!(formula(&question, Side::Right, 1), Some(&[0x03, 0x01, 1, 0x01, 2][..]));
+/// assert_eq!(formula(&question, Side::Right, 2), None);
+/// ```
+pub fn formula(question: &[u8], side: Side, place: usize) -> Option<&[u8]> {
+    let side = match side {
+        Side::Left => 0,
+        Side::Right => 1,
+    };
+    let mut out = [0; 2];
+    // SAFETY: the pointers and lengths are those of live slices, and `out` has 2 words.
+    let number = unsafe { raw::gekunday_formula(question.as_ptr(), question.len(), side, place, out.as_mut_ptr()) };
+    let start = usize::try_from(out[0]).ok()?;
+    let length = usize::try_from(out[1]).ok()?;
+    if number != 0 || length == 0 {
+        return None;
+    }
+    question.get(start..start.checked_add(length)?)
+}
+
+/// Decides a question with at most `budget` reductions and writes the derivation of a theorem to the first bytes of
+/// `buffer`.
+///
+/// The bytes behind the derivation keep their content; under an error all do. A buffer of [`Width::derivation_bound`]
+/// bytes is never too short, and an empty one asks for the length alone.
+///
+/// ```
+/// use gekunday::{derive, NotWritten};
+///
+/// // P AND Q on both sides.
+/// let question = [0x10, 1, 0x03, 0x01, 0, 0x01, 1, 0x20, 1, 0x03, 0x01, 0, 0x01, 1];
+/// assert_eq!(derive(&question, 100, &mut []), Err(NotWritten::NoSpace { needed: 8 }));
+///
+/// let mut buffer = [0xff; 10];
+/// let written = derive(&question, 100, &mut buffer)?;
+/// assert_eq!(written.derivation, [0x53, 0, 0x63, 0, 0x41, 0, 0x41, 1]);
+/// assert_eq!(buffer[8..], [0xff; 2]);
+/// # Ok::<(), gekunday::NotWritten>(())
+/// ```
+pub fn derive<'b>(question: &[u8], budget: u64, buffer: &'b mut [u8]) -> Result<Written<'b>, NotWritten> {
+    let mut out = [0; 3];
+    // SAFETY: the pointers and lengths are those of live slices, `buffer` is borrowed for writing, and `out` has 3
+    // words.
+    let number = unsafe {
+        raw::gekunday_derive(
+            question.as_ptr(),
+            question.len(),
+            budget,
+            buffer.as_mut_ptr(),
+            buffer.len(),
+            out.as_mut_ptr(),
+        )
+    };
+    let [first, second, third] = out;
+    match number {
+        0 => {
+            let length = usize::try_from(first).unwrap_or(usize::MAX);
+            // The library never says that it wrote more than the buffer holds.
+            let derivation = buffer.get(..length).ok_or(NotWritten::NoSpace { needed: first })?;
+            Ok(Written { derivation, reductions: second, closings: third })
+        }
+        8 => Err(NotWritten::Full { reductions: first, closings: second }),
+        9 => Err(NotWritten::Spent { reductions: first, closings: second }),
+        10 => Err(NotWritten::NotProved { state: first as u32, reductions: second, closings: third }),
+        11 => Err(NotWritten::NoSpace { needed: first }),
+        _ => Err(NotWritten::Refused(Refusal::of(number, first))),
+    }
+}
+
+/// Checks a derivation of a question, ours or another's: it may reduce in any order. A question with a derivation that
+/// passes is a theorem.
+///
+/// ```
+/// use gekunday::{check, NotPassed};
+///
+/// // P AND Q on both sides; here the right side is reduced first.
+/// let question = [0x10, 1, 0x03, 0x01, 0, 0x01, 1, 0x20, 1, 0x03, 0x01, 0, 0x01, 1];
+/// let derivation = [0x63, 0, 0x53, 0, 0x41, 0, 0x53, 0, 0x41, 1];
+/// assert_eq!(check(&question, &derivation), Ok(()));
+/// assert_eq!(check(&question, &derivation[..9]), Err(NotPassed::Cut(8)));
+/// assert_eq!(check(&question, &[0x63, 1]), Err(NotPassed::NoFormula(0)));
+/// ```
+pub fn check(question: &[u8], derivation: &[u8]) -> Result<(), NotPassed> {
+    let mut out = [0; 1];
+    // SAFETY: the pointers and lengths are those of live slices, and `out` has 1 word.
+    let number = unsafe {
+        raw::gekunday_check(question.as_ptr(), question.len(), derivation.as_ptr(), derivation.len(), out.as_mut_ptr())
+    };
+    match number {
+        0 => Ok(()),
+        _ => Err(NotPassed::of(number, out[0])),
+    }
+}

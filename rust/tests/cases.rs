@@ -1,0 +1,321 @@
+//! The questions that document 01 tries by hand, and the smallest example of each number.
+
+mod common;
+
+use common::calls;
+use common::examine::{examine, Seen};
+use common::prng::Prng;
+
+const LARGE: u64 = 1_000_000;
+
+fn hex(text: &str) -> Vec<u8> {
+    text.split_whitespace().map(|byte| u8::from_str_radix(byte, 16).unwrap()).collect()
+}
+
+/// A theorem with its counts, its width and its derivation.
+fn theorem(question: &str, reductions: u64, closings: u64, width: u64, derivation: &str) {
+    let (question, derivation) = (hex(question), hex(derivation));
+    assert_eq!(calls::decide(&question, LARGE), (0, [0, 0, reductions, closings]));
+    assert_eq!(calls::width(&question).0, 0);
+    assert_eq!(calls::width(&question).1[0], width);
+    let length = derivation.len() as u64;
+    assert_eq!(calls::derive(&question, LARGE, 4096), (0, [length, reductions, closings], derivation.clone()));
+    assert_eq!(calls::check(&question, &derivation), (0, [0]));
+    everything(&question);
+}
+
+fn refuted(question: &str, state: u64, reductions: u64, closings: u64, width: u64) {
+    let question = hex(question);
+    assert_eq!(calls::decide(&question, LARGE), (0, [1, state, reductions, closings]));
+    assert_eq!(calls::width(&question).0, 0);
+    assert_eq!(calls::width(&question).1[0], width);
+    assert_eq!(calls::derive(&question, LARGE, 4096), (10, [state, reductions, closings], vec![]));
+    everything(&question);
+}
+
+/// The same question against the other programs.
+fn everything(question: &[u8]) {
+    examine(question, &mut Prng::new(0), 10_000, &mut Seen::default());
+}
+
+fn refused(question: &[u8], number: u32, place: u64) {
+    assert_eq!(calls::width(question), (number, [place, 0]));
+    everything(question);
+}
+
+#[test]
+fn case_1_empty_sides() {
+    refuted("10 00 20 00", 0, 0, 0, 1);
+}
+
+#[test]
+fn case_2_a_letter_on_both_sides() {
+    theorem("10 01 01 00 20 01 01 00", 0, 1, 1, "41 00");
+}
+
+#[test]
+fn case_3_two_letters() {
+    refuted("10 01 01 00 20 01 01 01", 1, 0, 0, 1);
+}
+
+#[test]
+fn case_4_principia_2_45() {
+    theorem("10 01 02 04 01 00 01 01 20 01 02 01 00", 3, 1, 1, "52 00 62 00 64 00 41 00");
+}
+
+#[test]
+fn case_5_principia_4_21() {
+    theorem("10 00 20 01 05 03 02 01 00 02 01 01 06 01 00 01 01", 5, 2, 2, "65 00 53 00 52 00 52 00 66 00 41 00 41 01");
+}
+
+#[test]
+fn case_6_or_on_the_left() {
+    refuted("10 01 04 01 00 01 01 20 01 01 00", 2, 1, 1, 2);
+}
+
+#[test]
+fn case_7_equiv_on_the_right() {
+    theorem("10 00 20 01 06 01 00 01 00", 1, 2, 2, "66 00 41 00 41 00");
+}
+
+#[test]
+fn case_8_equiv_on_the_left() {
+    refuted("10 01 06 01 00 01 00 20 00", 1, 1, 0, 2);
+}
+
+const CASE_9: &str = "10 00 20 01 05 03 05 01 00 04 01 01 01 02 05 01 02 01 03 05 03 01 00 01 01 01 03";
+
+#[test]
+fn case_9_the_failing_example() {
+    refuted(CASE_9, 3, 8, 1, 6);
+}
+
+#[test]
+fn case_10_a_budget_of_7_and_of_8() {
+    let question = hex(CASE_9);
+    assert_eq!(calls::decide(&question, 7), (9, [0, 0, 7, 1]));
+    assert_eq!(calls::derive(&question, 7, 4096), (9, [7, 1, 0], vec![]));
+    assert_eq!(calls::decide(&question, 8), (0, [1, 3, 8, 1]));
+}
+
+#[test]
+fn case_11_and_on_both_sides() {
+    theorem("10 01 03 01 00 01 01 20 01 03 01 00 01 01", 2, 2, 2, "53 00 63 00 41 00 41 01");
+}
+
+#[test]
+fn case_12_the_limits() {
+    // Letter 31 is read, 32 gives 5.
+    refuted("10 01 01 1f 20 00", 1 << 31, 0, 0, 1);
+    refused(&hex("10 01 01 20 20 00"), 5, 3);
+    // 16 formulas on a side are read, 17 give 4.
+    let sixteen = [1, 0].repeat(16);
+    refuted(&format!("10 10 {} 20 00", "01 00 ".repeat(16)), 1, 0, 0, 1);
+    everything(&[&[0x10, 0, 0x20, 16], &sixteen[..]].concat());
+    refused(&[&[0x10, 17], &[1, 0].repeat(17)[..], &[0x20, 0]].concat(), 4, 1);
+    refused(&[&[0x10, 0, 0x20, 17], &[1, 0].repeat(17)[..]].concat(), 4, 3);
+    // 48 connectives are read, the 49th gives 6.
+    let most = [&[0x10, 0, 0x20, 1], &[2; 48][..], &[1, 0]].concat();
+    assert_eq!(calls::width(&most), (0, [1, 48]));
+    assert_eq!(calls::decide(&most, LARGE), (0, [1, 0, 48, 0]));
+    everything(&most);
+    refused(&[&[0x10, 0, 0x20, 1], &[2; 49][..], &[1, 0]].concat(), 6, 4 + 48);
+    // The empty slice gives 2 at place 0.
+    refused(&[], 2, 0);
+}
+
+/// 212 bytes are read: 16 formulas on each side and 48 connectives with two parts. One byte more gives 1, whatever the
+/// bytes are.
+#[test]
+fn the_longest_question() {
+    let mut longest = vec![];
+    for (command, connective) in [(0x10, 3), (0x20, 4)] {
+        longest.extend([command, 16]);
+        for place in 0..16 {
+            // 24 connectives a side: one and two in turn. Left and right have no letter in common.
+            let letter = place + if command == 0x10 { 0 } else { 16 };
+            longest.extend(vec![connective; 1 + (place as usize) % 2]);
+            longest.extend([1, letter].repeat(2 + (place as usize) % 2));
+        }
+    }
+    assert_eq!(longest.len(), 212);
+    assert_eq!(calls::width(&longest), (0, [1, 48]));
+    assert_eq!(calls::decide(&longest, LARGE), (0, [1, 0xffff, 48, 0]));
+    everything(&longest);
+    for last in [0, 1, 7, 255] {
+        refused(&[&longest[..], &[last]].concat(), 1, 212);
+    }
+    refused(&[255; 213], 1, 212);
+    refused(&[255; 212], 3, 0);
+    refused(&vec![0x10; 100_000], 1, 212);
+}
+
+/// The smallest questions that give 2, 3, 4, 5 and 7, on both sides, and the order of the numbers at one byte.
+#[test]
+fn smallest_refused_questions() {
+    for (question, number, place) in [
+        ("10", 2, 1),
+        ("10 00", 2, 2),
+        ("10 00 20", 2, 3),
+        ("10 01", 2, 2),
+        ("10 01 01", 2, 3),
+        ("10 01 02", 2, 3),
+        ("10 01 03 01 00", 2, 5),
+        ("10 00 20 01", 2, 4),
+        ("10 00 20 01 06 01 00 01", 2, 8),
+        ("00", 3, 0),
+        ("20", 3, 0),
+        ("01", 3, 0),
+        ("10 00 10", 3, 2),
+        ("10 00 01", 3, 2),
+        ("10 01 00", 3, 2),
+        ("10 01 07", 3, 2),
+        ("10 01 10", 3, 2),
+        ("10 01 20", 3, 2),
+        ("10 01 01 00 01", 3, 4),
+        ("10 00 20 01 20", 3, 4),
+        ("10 00 20 01 02 07", 3, 5),
+        ("10 11", 4, 1),
+        ("10 ff", 4, 1),
+        ("10 00 20 11", 4, 3),
+        ("10 01 01 20", 5, 3),
+        ("10 01 01 ff", 5, 3),
+        ("10 00 20 01 01 20", 5, 5),
+        ("10 00 20 00 00", 7, 4),
+        ("10 00 20 00 10", 7, 4),
+        ("10 00 20 00 ff ff", 7, 4),
+        ("10 00 20 01 01 00 01 00", 7, 6),
+    ] {
+        refused(&hex(question), number, place);
+    }
+    // 6 needs 48 connectives before it, and comes before what would follow.
+    refused(&[&[0x10, 1], &[2; 49][..]].concat(), 6, 50);
+    refused(&[&[0x10, 1], &[2; 48][..]].concat(), 2, 50);
+    refused(&[&[0x10, 1], &[2; 48][..], &[7]].concat(), 3, 50);
+    refused(&[&[0x10, 1], &[3; 48][..], &[6]].concat(), 6, 50);
+    // The connectives of both sides count together.
+    let both = [&[0x10, 1], &[2; 30][..], &[1, 0, 0x20, 1], &[2; 19][..], &[1, 0]].concat();
+    refused(&both, 6, 2 + 30 + 4 + 18);
+}
+
+/// Numbers 9, 10 and 11 of the writer, and their order.
+#[test]
+fn smallest_derivations_not_written() {
+    // 9 before 11: P EQUIV P with budget 0 and no room.
+    let equiv = hex("10 00 20 01 06 01 00 01 00");
+    assert_eq!(calls::decide(&equiv, 0), (9, [0, 0, 0, 0]));
+    assert_eq!(calls::derive(&equiv, 0, 0), (9, [0, 0, 0], vec![]));
+    // 10: nothing follows from nothing, also without room.
+    assert_eq!(calls::derive(&hex("10 00 20 00"), 0, 0), (10, [0, 0, 0], vec![]));
+    assert_eq!(calls::derive(&hex("10 01 01 1f 20 00"), 0, 9), (10, [1 << 31, 0, 0], vec![]));
+    // 9 before 10: P OR Q on the left.
+    let or = hex("10 01 04 01 00 01 01 20 00");
+    assert_eq!(calls::derive(&or, 0, 9), (9, [0, 0, 0], vec![]));
+    assert_eq!(calls::derive(&or, 1, 9), (10, [1, 1, 0], vec![]));
+    // 11: the length needed.
+    let closed = hex("10 01 01 05 20 01 01 05");
+    assert_eq!(calls::derive(&closed, 0, 0), (11, [2, 0, 0], vec![]));
+    assert_eq!(calls::derive(&closed, 0, 1), (11, [2, 0, 0], vec![]));
+    assert_eq!(calls::derive(&closed, 0, 2), (0, [2, 0, 1], vec![0x41, 5]));
+    assert_eq!(calls::derive(&equiv, 1, 5), (11, [6, 0, 0], vec![]));
+}
+
+/// The lowest letter closes, wherever it stands.
+#[test]
+fn the_lowest_letter_closes() {
+    let question = hex("10 03 01 09 01 05 01 07 20 03 01 07 01 09 01 05");
+    assert_eq!(calls::derive(&question, 0, 2), (0, [2, 0, 1], vec![0x41, 5]));
+    everything(&question);
+}
+
+/// Each reduction by itself, with a letter beside it on both sides: places, premises and their order. The letters are
+/// different, so that each sequent in turn is open or closed by one letter alone.
+#[test]
+fn each_reduction_by_itself() {
+    for connective in 2..7 {
+        let parts: &[u8] = if connective == 2 { &[1, 0] } else { &[1, 0, 1, 1] };
+        for left in 0..2 {
+            // Every way to have each of the letters 0 and 1 on the left, on the right, on both or on neither.
+            for beside in 0..16u8 {
+                let mut sides = [vec![vec![1, 8]], vec![vec![1, 9]]];
+                for (bit, side, letter) in [(1, 0, 0), (2, 0, 1), (4, 1, 0), (8, 1, 1)] {
+                    if beside & bit != 0 {
+                        sides[side].push(vec![1, letter]);
+                    }
+                }
+                sides[left].insert(1, [&[connective], parts].concat());
+                let question = [
+                    &[0x10, sides[0].len() as u8][..],
+                    &sides[0].concat(),
+                    &[0x20, sides[1].len() as u8],
+                    &sides[1].concat(),
+                ]
+                .concat();
+                everything(&question);
+            }
+        }
+    }
+}
+
+/// The checker's numbers, each at its smallest.
+#[test]
+fn smallest_derivations_that_fail() {
+    let closed = hex("10 01 01 00 20 01 01 00");
+    let and = hex("10 01 03 01 00 01 01 20 01 03 01 00 01 01");
+    let open = hex("10 01 01 00 20 01 01 01");
+    for (question, derivation, number, place) in [
+        (&closed, "", 20, 0),
+        (&closed, "41", 20, 0),
+        (&closed, "00", 20, 0),
+        (&and, "53 00", 20, 2),
+        (&and, "53 00 63", 20, 2),
+        (&and, "53 00 63 00 41 00", 20, 6),
+        (&and, "53 00 63 00 41 00 41", 20, 6),
+        (&closed, "00 00", 21, 0),
+        (&closed, "40 00", 21, 0),
+        (&closed, "42 00", 21, 0),
+        (&closed, "51 00", 21, 0),
+        (&closed, "57 00", 21, 0),
+        (&closed, "61 00", 21, 0),
+        (&closed, "67 00", 21, 0),
+        (&closed, "72 00", 21, 0),
+        (&closed, "c1 00", 21, 0),
+        (&and, "53 00 50 00", 21, 2),
+        (&closed, "52 01", 22, 0),
+        (&closed, "66 ff", 22, 0),
+        (&and, "53 01", 22, 0),
+        (&and, "54 01", 22, 0),
+        (&and, "53 00 63 01", 22, 2),
+        (&closed, "52 00", 23, 0),
+        (&closed, "62 00", 23, 0),
+        (&and, "52 00", 23, 0),
+        (&and, "54 00", 23, 0),
+        (&and, "64 00", 23, 0),
+        (&and, "53 00 53 01", 23, 2),
+        (&closed, "41 01", 24, 0),
+        (&closed, "41 20", 24, 0),
+        (&closed, "41 ff", 24, 0),
+        (&and, "41 00", 24, 0),
+        (&open, "41 00", 24, 0),
+        (&open, "41 01", 24, 0),
+        (&and, "53 00 63 00 41 01", 24, 4),
+        (&closed, "41 00 41", 25, 2),
+        (&closed, "41 00 41 00", 25, 2),
+        (&closed, "41 00 00 00 00", 25, 2),
+        (&and, "53 00 63 00 41 00 41 01 ff", 25, 8),
+    ] {
+        let derivation = hex(derivation);
+        assert_eq!(calls::check(question, &derivation), (number, [place]), "{:02x?}", derivation);
+        assert_eq!(common::order::check(question, &derivation), (number, place), "{:02x?}", derivation);
+        let failed = gekunday::check(question, &derivation).unwrap_err();
+        assert_eq!((failed.number(), failed.place()), (number, place));
+    }
+}
+
+/// The question is read before the derivation.
+#[test]
+fn the_checker_reads_the_question_first() {
+    assert_eq!(calls::check(&[], &[]), (2, [0]));
+    assert_eq!(calls::check(&[0x10, 0x11], &[0, 0, 0]), (4, [1]));
+    assert_eq!(calls::check(&[0; 213], &[0x41, 0]), (1, [212]));
+}

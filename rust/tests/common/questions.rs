@@ -1,0 +1,239 @@
+//! Random questions: short ones, ones near the limits, theorems by construction, and damaged ones.
+
+use super::prng::Prng;
+
+pub const LETTER: u8 = 1;
+pub const NOT: u8 = 2;
+pub const AND: u8 = 3;
+pub const OR: u8 = 4;
+pub const IMPLIES: u8 = 5;
+pub const EQUIV: u8 = 6;
+
+/// What formulas are made of.
+pub struct Shape {
+    pub letters: Vec<u8>,
+    /// In how many of 100 cases a connective is one that has a single premise where it stands.
+    pub thrift: usize,
+    /// Letters that end up on the left and on the right are different ones (but for EQUIV): most questions are refuted.
+    pub apart: bool,
+    /// Whether NOT is used at all.
+    pub nots: bool,
+}
+
+/// `count` different letters.
+pub fn some_letters(rng: &mut Prng, count: usize) -> Vec<u8> {
+    let mut all: Vec<u8> = (0..32).collect();
+    for i in 0..count {
+        let j = rng.within(i, 31);
+        all.swap(i, j);
+    }
+    all.truncate(count);
+    all
+}
+
+/// Appends a formula with so many connectives, to stand on the left or on the right.
+pub fn formula(rng: &mut Prng, shape: &Shape, connectives: usize, on_left: bool, to: &mut Vec<u8>) {
+    if connectives == 0 {
+        let half = shape.letters.len().div_ceil(2);
+        let from = match (shape.apart, on_left) {
+            (false, _) => &shape.letters[..],
+            (true, true) => &shape.letters[..half],
+            (true, false) => &shape.letters[shape.letters.len() - half..],
+        };
+        to.extend([LETTER, rng.pick(from)]);
+        return;
+    }
+    let connective = if rng.chance(shape.thrift) {
+        if on_left {
+            rng.pick(&[NOT, AND])
+        } else {
+            rng.pick(&[NOT, OR, IMPLIES])
+        }
+    } else {
+        rng.within(2, 6) as u8
+    };
+    let connective = match connective {
+        NOT if !shape.nots && on_left => AND,
+        NOT if !shape.nots => OR,
+        other => other,
+    };
+    to.push(connective);
+    if connective == NOT {
+        return formula(rng, shape, connectives - 1, !on_left, to);
+    }
+    let first = rng.below(connectives);
+    formula(rng, shape, first, on_left != (connective == IMPLIES), to);
+    formula(rng, shape, connectives - 1 - first, on_left, to);
+}
+
+/// A question with so many formulas on each side and so many connectives (none where there is no formula).
+pub fn question(rng: &mut Prng, shape: &Shape, left: usize, right: usize, connectives: usize) -> Vec<u8> {
+    let mut shares = vec![0; left + right];
+    if !shares.is_empty() {
+        for _ in 0..connectives {
+            let at = rng.below(shares.len());
+            shares[at] += 1;
+        }
+    }
+    let mut bytes = vec![0x10, left as u8];
+    for &share in &shares[..left] {
+        formula(rng, shape, share, true, &mut bytes);
+    }
+    bytes.extend([0x20, right as u8]);
+    for &share in &shares[left..] {
+        formula(rng, shape, share, false, &mut bytes);
+    }
+    bytes
+}
+
+pub fn short(rng: &mut Prng) -> Vec<u8> {
+    let count = rng.within(1, 5);
+    let shape = Shape { letters: some_letters(rng, count), thrift: rng.pick(&[0, 0, 40]), apart: false, nots: true };
+    let (left, right) = (rng.below(4), rng.below(4));
+    let connectives = rng.below(10);
+    question(rng, &shape, left, right, connectives)
+}
+
+pub fn near_limits(rng: &mut Prng) -> Vec<u8> {
+    let count = rng.pick(&[1, 2, 4, 8, 12, 12, 24, 32]);
+    let shape = Shape {
+        letters: some_letters(rng, count),
+        thrift: rng.pick(&[60, 90, 97, 100]),
+        apart: rng.chance(70),
+        nots: rng.chance(70),
+    };
+    let (left, right) = (rng.pick(&[0, 1, 3, 8, 15, 16, 16]), rng.pick(&[0, 1, 3, 8, 15, 16, 16]));
+    let connectives = rng.pick(&[48, 48, 47, 40, 30]);
+    question(rng, &shape, left, right, connectives)
+}
+
+/// Another formula that is true in the same states.
+fn rewritten(rng: &mut Prng, bytes: &[u8], to: &mut Vec<u8>) -> usize {
+    if rng.chance(10) {
+        to.extend([NOT, NOT]);
+    }
+    match bytes[0] {
+        LETTER => {
+            to.extend(&bytes[..2]);
+            2
+        }
+        NOT => {
+            to.push(NOT);
+            1 + rewritten(rng, &bytes[1..], to)
+        }
+        connective => {
+            let (mut f, mut g) = (vec![], vec![]);
+            let first = rewritten(rng, &bytes[1..], &mut f);
+            let second = rewritten(rng, &bytes[1 + first..], &mut g);
+            if connective != IMPLIES && rng.chance(50) {
+                std::mem::swap(&mut f, &mut g);
+            }
+            let spelled: Vec<&[u8]> = match (connective, rng.below(3)) {
+                (AND, 0) => vec![&[NOT, OR, NOT], &f, &[NOT], &g],
+                (AND, 1) => vec![&[NOT, IMPLIES], &f, &[NOT], &g],
+                (OR, 0) => vec![&[NOT, AND, NOT], &f, &[NOT], &g],
+                (OR, 1) => vec![&[IMPLIES, NOT], &f, &g],
+                (IMPLIES, 0) => vec![&[OR, NOT], &f, &g],
+                (IMPLIES, 1) => vec![&[IMPLIES, NOT], &g, &[NOT], &f],
+                (EQUIV, 0) => vec![&[AND, IMPLIES], &f, &g, &[IMPLIES], &g, &f],
+                (EQUIV, 1) => vec![&[NOT, EQUIV], &f, &[NOT], &g],
+                _ => vec![std::slice::from_ref(&connective), &f, &g],
+            };
+            to.extend(spelled.concat());
+            1 + first + second
+        }
+    }
+}
+
+/// A theorem: from a formula (and others beside it) follows the same formula written in another way.
+pub fn theorem(rng: &mut Prng, most: usize) -> Vec<u8> {
+    let count = rng.within(1, 6);
+    let shape = Shape { letters: some_letters(rng, count), thrift: rng.pick(&[0, 50]), apart: false, nots: true };
+    loop {
+        let connectives = rng.within(1, most);
+        let mut given = vec![];
+        formula(rng, &shape, connectives, true, &mut given);
+        let mut follows = vec![];
+        rewritten(rng, &given, &mut follows);
+        let (mut left, mut right) = (vec![given], vec![follows]);
+        if rng.chance(20) {
+            // The same as one formula on the right.
+            right = vec![[&[rng.pick(&[IMPLIES, EQUIV])], left[0].as_slice(), right[0].as_slice()].concat()];
+            left = vec![];
+        }
+        for _ in 0..rng.below(3) {
+            let mut beside = vec![];
+            let connectives = rng.below(3);
+            let on_left = rng.chance(50);
+            formula(rng, &shape, connectives, on_left, &mut beside);
+            let side = if on_left { &mut left } else { &mut right };
+            let at = rng.below(side.len() + 1);
+            side.insert(at, beside);
+        }
+        let bytes =
+            [&[0x10, left.len() as u8][..], &left.concat(), &[0x20, right.len() as u8], &right.concat()].concat();
+        if super::tree::read(&bytes).is_ok() {
+            return bytes;
+        }
+    }
+}
+
+/// A question with some bytes changed, put in, taken out or appended, or one that goes over a limit.
+pub fn damaged(rng: &mut Prng) -> Vec<u8> {
+    const TELLING: [u8; 18] = [0, 1, 2, 3, 4, 5, 6, 7, 15, 16, 17, 0x20, 0x21, 31, 33, 48, 127, 255];
+    let mut bytes = match rng.below(10) {
+        0..=4 => short(rng),
+        5..=6 => near_limits(rng),
+        7 => theorem(rng, 8),
+        8 => {
+            // Over the limits now and then; half of these go out with no other damage.
+            let letters = if rng.chance(10) { 33 } else { 32 };
+            let shape = Shape { letters: (0..letters).collect(), thrift: 50, apart: false, nots: true };
+            let (left, right) = (rng.pick(&[1, 15, 16, 17]), rng.pick(&[1, 15, 16, 16]));
+            let connectives = rng.within(46, 52);
+            let bytes = question(rng, &shape, left, right, connectives);
+            if rng.chance(50) {
+                return bytes;
+            }
+            bytes
+        }
+        _ => {
+            let length = rng.below(12);
+            let mut bytes = vec![0x10, rng.below(3) as u8];
+            bytes.extend((0..length).map(|_| rng.pick(&[0, 1, 1, 2, 3, 4, 5, 6, 0x20])));
+            bytes
+        }
+    };
+    for _ in 0..rng.within(1, 3) {
+        let at = rng.below(bytes.len().max(1));
+        match rng.below(8) {
+            0 | 1 if !bytes.is_empty() => bytes[at] = rng.pick(&TELLING),
+            2 if !bytes.is_empty() => bytes[at] ^= 1 << rng.below(8),
+            3 if !bytes.is_empty() => {
+                bytes.remove(at);
+            }
+            4 => bytes.insert(at, rng.pick(&TELLING)),
+            5 => bytes.truncate(at),
+            6 => {
+                let more = rng.within(1, 4);
+                bytes.extend((0..more).map(|_| rng.pick(&TELLING)));
+            }
+            _ => {
+                let end = rng.within(at, bytes.len());
+                let again = bytes[at.min(end)..end].to_vec();
+                bytes.splice(at.min(end)..at.min(end), again);
+            }
+        }
+    }
+    bytes
+}
+
+/// A theorem with a large tree: EQUIV over so many letters, on the right, with its letters in the opposite order.
+pub fn equiv_chains(letters: u8) -> Vec<u8> {
+    let chain = |letters: Vec<u8>| -> Vec<u8> {
+        let mut bytes = vec![EQUIV; letters.len() - 1];
+        bytes.extend(letters.iter().flat_map(|&letter| [LETTER, letter]));
+        bytes
+    };
+    [&[0x10, 0, 0x20, 1, EQUIV][..], &chain((0..letters).collect()), &chain((0..letters).rev().collect())].concat()
+}
