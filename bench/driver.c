@@ -6,7 +6,14 @@
 #include <string.h>
 #include <time.h>
 
+typedef uint32_t read_call(const uint8_t *question, size_t length, uint64_t out[2]);
+
+#ifdef WITH_CLANG
 decide peer_value_decide_clang, peer_best_decide_clang, peer_sets_decide_clang;
+read_call peer_scan_clang;
+#else
+#define peer_scan_clang peer_scan
+#endif
 
 static double now(void)
 {
@@ -113,6 +120,10 @@ static void check_damaged(const results *r, const question_set *set)
         uint64_t out[4];
         q.bytes[i * 7 % q.length] = i * 37 % 48;
         uint32_t number = peer_value_decide(q.bytes, q.length, 1000, out);
+        uint64_t scanned[4] = { 0 };
+        uint32_t refusal = peer_scan(q.bytes, q.length, scanned);
+        if (refusal != (number < FULL ? number : 0) || (refusal && scanned[0] != out[0]))
+            disagree("peer_scan", &q, 0, refusal, scanned, number, out);
         for (int k = 0; k < r->count; k++)
             if (r->implementations[k].tree)
                 agree(&r->implementations[k], &q, 1000, number, out);
@@ -200,35 +211,32 @@ static void time_all(results *r)
 }
 
 // No formula stands at place 99, so this reads the whole question and hands out nothing.
-static double read_ours(const question_set *set)
+static uint32_t read_whole(const uint8_t *question, size_t length, uint64_t out[2])
 {
-    double start = now();
-    for (int times = 0; times < 50; times++)
-        for (int i = 0; i < set->count; i++) {
-            uint64_t out[2];
-            gekunday_formula(set->questions[i].bytes, set->questions[i].length, 0, 99, out);
-        }
-    return (now() - start) / 50 / set->count;
+    return gekunday_formula(question, length, 0, 99, out);
 }
 
-static double read_peer(const question_set *set)
+static double reading_pass(read_call *read, const question_set *set, int times)
 {
     double start = now();
-    for (int times = 0; times < 50; times++)
+    for (int k = 0; k < times; k++)
         for (int i = 0; i < set->count; i++) {
             uint64_t out[2];
-            peer_scan(set->questions[i].bytes, set->questions[i].length, out);
+            read(set->questions[i].bytes, set->questions[i].length, out);
         }
-    return (now() - start) / 50 / set->count;
+    return (now() - start) / times / set->count;
 }
+
+static double lesser(double a, double b) { return a < b ? a : b; }
 
 static void time_reading(reading_time *t, const question_set *set, int rounds)
 {
+    int times = 1 + 20e6 / (set->count * reading_pass(peer_scan, set, 10));
     *t = (reading_time){ set->title, 1e18, 1e18 };
     for (int round = 0; round < rounds; round++) {
-        double ours = read_ours(set), peer = read_peer(set);
-        t->ours = ours < t->ours ? ours : t->ours;
-        t->peer = peer < t->peer ? peer : t->peer;
+        t->ours = lesser(t->ours, reading_pass(read_whole, set, times));
+        t->peer = lesser(t->peer, reading_pass(peer_scan, set, times));
+        t->peer = lesser(t->peer, reading_pass(peer_scan_clang, set, times));
     }
 }
 

@@ -77,45 +77,49 @@ uint32_t peer_read(const uint8_t *question, size_t length, reading *r)
     return r->number = c.number;
 }
 
-static int scan_side(cursor *c, int side, uint32_t *connectives)
+static uint32_t stop(uint64_t out[2], uint32_t number, uint64_t place)
 {
-    uint32_t due;
-    if (!read_head(c, side ? RIGHT_SIDE : LEFT_SIDE, &due))
-        return 0;
-    while (due > 0) {
-        if (c->at == c->length)
-            return refuse(c, CUT, c->length);
-        uint8_t command = c->bytes[c->at];
-        if (command == LETTER) {
-            if (c->at + 1 == c->length)
-                return refuse(c, CUT, c->length);
-            if (c->bytes[c->at + 1] >= LAMPS)
-                return refuse(c, NO_SUCH_LAMP, c->at + 1);
-            c->at += 2;
-            due--;
-        } else if (command >= NOT && command <= EQUIV) {
-            if ((*connectives)++ == MOST_CONNECTIVES)
-                return refuse(c, MANY_CONNECTIVES, c->at);
-            c->at++;
-            due += command != NOT;
-        } else {
-            return refuse(c, WRONG_COMMAND, c->at);
-        }
-    }
-    return 1;
+    out[0] = place;
+    out[1] = 0;
+    return number;
 }
 
 uint32_t peer_scan(const uint8_t *question, size_t length, uint64_t out[2])
 {
-    cursor c = { question, length, 0, 0 };
+    size_t at = 0;
     uint32_t connectives = 0;
     if (length > MOST_BYTES)
-        refuse(&c, TOO_LONG, MOST_BYTES);
-    else if (scan_side(&c, 0, &connectives) && scan_side(&c, 1, &connectives) && c.at != length)
-        refuse(&c, LEFT_OVER, c.at);
-    out[0] = c.at;
-    out[1] = connectives;
-    return c.number;
+        return stop(out, TOO_LONG, MOST_BYTES);
+    for (int side = 0; side < 2; side++) {
+        if (at == length)
+            return stop(out, CUT, length);
+        if (question[at] != (side ? RIGHT_SIDE : LEFT_SIDE))
+            return stop(out, WRONG_COMMAND, at);
+        if (++at == length)
+            return stop(out, CUT, length);
+        uint32_t due = question[at];
+        if (due > MOST_A_SIDE)
+            return stop(out, MANY_FORMULAS, at);
+        for (at++; due > 0;) {
+            if (at == length)
+                return stop(out, CUT, length);
+            uint8_t command = question[at++];
+            if (command == LETTER) {
+                if (at == length)
+                    return stop(out, CUT, length);
+                if (question[at++] >= LAMPS)
+                    return stop(out, NO_SUCH_LAMP, at - 1);
+                due--;
+            } else if (command >= NOT && command <= EQUIV) {
+                if (connectives++ == MOST_CONNECTIVES)
+                    return stop(out, MANY_CONNECTIVES, at - 1);
+                due += command != NOT;
+            } else {
+                return stop(out, WRONG_COMMAND, at - 1);
+            }
+        }
+    }
+    return at == length ? stop(out, 0, 0) : stop(out, LEFT_OVER, at);
 }
 
 // From the last command back, with the starts of the formulas that wait for their connective.
