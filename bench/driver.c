@@ -180,6 +180,14 @@ static double pass(const results *r, const implementation *m, int set, int times
     return now() - start;
 }
 
+// Each round begins at another stack address, so that no single layout decides.
+static double sample(const results *r, const implementation *m, int set, int round)
+{
+    volatile char *space = __builtin_alloca(16 + round * 208 % 1024);
+    space[0] = 0;
+    return pass(r, m, set, m->passes[set]) / m->passes[set] / r->sets[set].count;
+}
+
 static int ascending(const void *a, const void *b)
 {
     double x = *(const double *)a, y = *(const double *)b;
@@ -198,10 +206,8 @@ static void time_all(results *r)
         }
     for (int round = 0; round < r->rounds; round++)
         for (int s = 0; s < SETS; s++)
-            for (int k = 0; k < r->count; k++) {
-                implementation *m = &r->implementations[k];
-                samples[k][s][round] = pass(r, m, s, m->passes[s]) / m->passes[s] / r->sets[s].count;
-            }
+            for (int k = 0; k < r->count; k++)
+                samples[k][s][round] = sample(r, &r->implementations[k], s, round);
     for (int k = 0; k < r->count; k++)
         for (int s = 0; s < SETS; s++) {
             qsort(samples[k][s], r->rounds, sizeof(double), ascending);

@@ -221,7 +221,8 @@ static sequent proposal(int family, const size *z)
     return s;
 }
 
-// One question of the wanted verdict. The tree is at least `least` and less than four times that, where the size has a least.
+// One question of the wanted verdict. Where the size has a least tree, each question draws its own least, 1 to 32 times
+// that, and its tree is at most four times its least.
 static void choose(question *q, int family, bool refuted, const size *z)
 {
     uint64_t out[4], least = z->least_reductions, most = z->most_reductions;

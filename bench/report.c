@@ -151,7 +151,8 @@ void write_plot(FILE *file, const results *r)
     fprintf(file, "<style>text{font-family:'DejaVu Sans',Helvetica,Arial,sans-serif;font-size:12px;fill:#222}"
                   ".title{font-size:17px;font-weight:bold}.panel{font-size:14px;font-weight:bold}"
                   ".label{text-anchor:end}.first{font-weight:bold}.tick{text-anchor:middle;fill:#666;font-size:11px}"
-                  ".value{font-size:11px;paint-order:stroke;stroke:#fff;stroke-width:4px}.key{fill:#444}.grid{stroke:#ccc}.fine{stroke:#eee}"
+                  ".value{font-size:11px;paint-order:stroke;stroke:#fff;stroke-width:4px}"
+                  ".key{fill:#444}.grid{stroke:#ccc}.fine{stroke:#eee}"
                   ".ours{fill:#c0392b}.tree{fill:#2f6690}.other{fill:#9aa5ad}</style>\n");
     fprintf(file, "<rect width='100%%' height='100%%' fill='#fff'/>\n");
     fprintf(file, "<text class='title' x='20' y='30'>Time to decide one question (log scale, shorter is faster)</text>\n");
