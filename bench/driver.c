@@ -1,0 +1,290 @@
+// Checks that all agree, then times them in turn and writes the table and the plot into the directory given.
+#include "bench.h"
+#include "library.h"
+#include "lisp.h"
+#include <stdlib.h>
+#include <string.h>
+#include <time.h>
+
+typedef uint32_t read_call(const uint8_t *question, size_t length, uint64_t out[2]);
+
+#ifdef WITH_CLANG
+decide peer_value_decide_clang, peer_best_decide_clang, peer_sets_decide_clang;
+read_call peer_scan_clang;
+#else
+#define peer_scan_clang peer_scan
+#endif
+
+static double now(void)
+{
+    struct timespec t;
+    clock_gettime(CLOCK_MONOTONIC, &t);
+    return t.tv_sec * 1e9 + t.tv_nsec;
+}
+
+static void add(results *r, const char *name, const char *note, decide *f, bool tree)
+{
+    r->implementations[r->count++] = (implementation){ .name = name, .note = note, .decide = f, .tree = tree };
+}
+
+static void list_implementations(results *r, bool lisp)
+{
+    add(r, "gekunday", "the library, proved", gekunday_decide, true);
+    add(r, "peer_value (" CC_NAME ")", "C, sequent copied for each premise", peer_value_decide, true);
+#ifdef WITH_CLANG
+    add(r, "peer_value (clang)", "the same", peer_value_decide_clang, true);
+#endif
+    add(r, "peer_best (" CC_NAME ")", "C, in place, copied at two premises only", peer_best_decide, true);
+#ifdef WITH_CLANG
+    add(r, "peer_best (clang)", "the same", peer_best_decide_clang, true);
+#endif
+    add(r, "peer_sets (" CC_NAME ")", "C, sequent as sets of connectives", peer_sets_decide, true);
+#ifdef WITH_CLANG
+    add(r, "peer_sets (clang)", "the same", peer_sets_decide_clang, true);
+#endif
+    if (lisp)
+        add(r, "DR 34 (SBCL)", "the report's LISP program, question already read", 0, false);
+    else
+        printf("bench: sbcl is absent, DR 34's program is skipped\n");
+#ifdef WITH_CADICAL
+    add(r, "CaDiCaL", "Tseitin encoding, a fresh solver each", cadical_decide, false);
+#else
+    printf("bench: libcadical-dev is absent, CaDiCaL is skipped\n");
+#endif
+    add(r, "truth table", "64 states a word", truth_table_decide, false);
+}
+
+// Agreement
+
+static void disagree(const char *name, const question *q, uint64_t budget, uint32_t number, const uint64_t out[4],
+                     uint32_t due, const uint64_t due_out[4])
+{
+    fprintf(stderr, "bench: DISAGREEMENT of %s, budget %llu: %u", name, (unsigned long long)budget, number);
+    for (int i = 0; i < 4; i++)
+        fprintf(stderr, " %llu", (unsigned long long)out[i]);
+    fprintf(stderr, ", due %u", due);
+    for (int i = 0; i < 4; i++)
+        fprintf(stderr, " %llu", (unsigned long long)due_out[i]);
+    fprintf(stderr, "\nquestion:");
+    for (int i = 0; i < q->length; i++)
+        fprintf(stderr, " %02x", q->bytes[i]);
+    fprintf(stderr, "\n");
+    exit(1);
+}
+
+static void agree(const implementation *m, const question *q, uint64_t budget, uint32_t due, const uint64_t due_out[4])
+{
+    uint64_t out[4] = { 7, 7, 7, 7 };
+    uint32_t number = m->decide(q->bytes, q->length, budget, out);
+    size_t words = m->tree ? 4 : 1;
+    if (number != due || memcmp(out, due_out, words * sizeof *out))
+        disagree(m->name, q, budget, number, out, due, due_out);
+}
+
+// Some of document 01's cases: they hold the peers to the paper.
+static void check_cases(const results *r)
+{
+    static const struct {
+        question question;
+        uint64_t budget;
+        uint32_t number;
+        uint64_t out[4];
+    } cases[] = {
+        { { { 0x10, 0, 0x20, 0 }, 4 }, BUDGET, 0, { 1, 0, 0, 0 } },
+        { { { 0x10, 1, 1, 0, 0x20, 1, 1, 0 }, 8 }, BUDGET, 0, { 0, 0, 0, 1 } },
+        { { { 0x10, 1, 2, 4, 1, 0, 1, 1, 0x20, 1, 2, 1, 0 }, 13 }, BUDGET, 0, { 0, 0, 3, 1 } },
+        { { { 0x10, 0, 0x20, 1, 5, 3, 2, 1, 0, 2, 1, 1, 6, 1, 0, 1, 1 }, 17 }, BUDGET, 0, { 0, 0, 5, 2 } },
+        { { { 0x10, 1, 4, 1, 0, 1, 1, 0x20, 1, 1, 0 }, 11 }, BUDGET, 0, { 1, 2, 1, 1 } },
+        { { { 0x10, 0, 0x20, 1, 6, 1, 0, 1, 0 }, 9 }, BUDGET, 0, { 0, 0, 1, 2 } },
+        { { { 0x10, 1, 6, 1, 0, 1, 0, 0x20, 0 }, 9 }, BUDGET, 0, { 1, 1, 1, 0 } },
+        { { { 0x10, 0, 0x20, 1, 5, 3, 5, 1, 0, 4, 1, 1, 1, 2, 5, 1, 2, 1, 3, 5, 3, 1, 0, 1, 1, 1, 3 }, 27 }, 8, 0,
+          { 1, 3, 8, 1 } },
+        { { { 0x10, 0, 0x20, 1, 5, 3, 5, 1, 0, 4, 1, 1, 1, 2, 5, 1, 2, 1, 3, 5, 3, 1, 0, 1, 1, 1, 3 }, 27 }, 7, SPENT,
+          { 0, 0, 7, 1 } },
+        { { { 0x10, 1, 3, 1, 0, 1, 1, 0x20, 1, 3, 1, 0, 1, 1 }, 14 }, BUDGET, 0, { 0, 0, 2, 2 } },
+        { { { 0x10, 1, 1, 32, 0x20, 0 }, 6 }, BUDGET, NO_SUCH_LAMP, { 3, 0, 0, 0 } },
+        { { { 0x10, 17, 0x20, 0 }, 4 }, BUDGET, MANY_FORMULAS, { 1, 0, 0, 0 } },
+        { { { 0 }, 0 }, BUDGET, CUT, { 0, 0, 0, 0 } },
+    };
+    for (size_t k = 0; k < sizeof cases / sizeof *cases; k++)
+        for (int i = 0; i < r->count; i++)
+            if (r->implementations[i].decide && (r->implementations[i].tree || cases[k].number != SPENT))
+                agree(&r->implementations[i], &cases[k].question, cases[k].budget, cases[k].number, cases[k].out);
+}
+
+// Each question with one byte changed: refusals, or another question.
+static void check_damaged(const results *r, const question_set *set)
+{
+    for (int i = 0; i < set->count; i++) {
+        question q = set->questions[i];
+        uint64_t out[4];
+        q.bytes[i * 7 % q.length] = i * 37 % 48;
+        uint32_t number = peer_value_decide(q.bytes, q.length, 1000, out);
+        uint64_t scanned[4] = { 0 };
+        uint32_t refusal = peer_scan(q.bytes, q.length, scanned);
+        if (refusal != (number < FULL ? number : 0) || (refusal && scanned[0] != out[0]))
+            disagree("peer_scan", &q, 0, refusal, scanned, number, out);
+        for (int k = 0; k < r->count; k++)
+            if (r->implementations[k].tree)
+                agree(&r->implementations[k], &q, 1000, number, out);
+    }
+}
+
+static void check_lisp(const question_set *set, int number)
+{
+    char line[EDITOR_QUESTIONS + LIMITS_QUESTIONS + 2];
+    lisp_verdicts(number, line, sizeof line);
+    for (int i = 0; i < set->count; i++) {
+        uint64_t out[4] = { line[i] - '0' };
+        if (out[0] != set->answers[i][0])
+            disagree("DR 34", &set->questions[i], BUDGET, 0, out, 0, set->answers[i]);
+    }
+}
+
+static void check_set(const results *r, int number)
+{
+    const question_set *set = &r->sets[number];
+    for (int k = 0; k < r->count; k++) {
+        const implementation *m = &r->implementations[k];
+        if (!m->decide)
+            check_lisp(set, number);
+        for (int i = 0; m->decide && i < set->count; i++)
+            agree(m, &set->questions[i], BUDGET, 0, set->answers[i]);
+    }
+    for (int i = 0; i < set->count; i++) {
+        const question *q = &set->questions[i];
+        uint64_t out[4], budget = set->answers[i][2];
+        if (budget-- == 0)
+            continue;
+        peer_value_decide(q->bytes, q->length, budget, out);
+        for (int k = 0; k < r->count; k++)
+            if (r->implementations[k].tree)
+                agree(&r->implementations[k], q, budget, SPENT, out);
+    }
+    check_damaged(r, set);
+}
+
+// Timing
+
+static double pass(const results *r, const implementation *m, int set, int times)
+{
+    if (!m->decide)
+        return lisp_pass(set, times);
+    const question_set *s = &r->sets[set];
+    double start = now();
+    while (times-- > 0)
+        for (int i = 0; i < s->count; i++) {
+            uint64_t out[4];
+            m->decide(s->questions[i].bytes, s->questions[i].length, BUDGET, out);
+        }
+    return now() - start;
+}
+
+// Each round begins at another stack address, so that no single layout decides.
+static double sample(const results *r, const implementation *m, int set, int round)
+{
+    volatile char *space = __builtin_alloca(16 + round * 208 % 1024);
+    space[0] = 0;
+    return pass(r, m, set, m->passes[set]) / m->passes[set] / r->sets[set].count;
+}
+
+static int ascending(const void *a, const void *b)
+{
+    double x = *(const double *)a, y = *(const double *)b;
+    return (x > y) - (x < y);
+}
+
+// Each sample is so many passes that it takes 20 ms or more. Implementations take turns within a round.
+static void time_all(results *r)
+{
+    static double samples[MOST_IMPLEMENTATIONS][SETS][MOST_ROUNDS];
+    for (int k = 0; k < r->count; k++)
+        for (int s = 0; s < SETS; s++) {
+            implementation *m = &r->implementations[k];
+            pass(r, m, s, 1);
+            m->passes[s] = 1 + 20e6 / pass(r, m, s, 1);
+        }
+    for (int round = 0; round < r->rounds; round++)
+        for (int s = 0; s < SETS; s++)
+            for (int k = 0; k < r->count; k++)
+                samples[k][s][round] = sample(r, &r->implementations[k], s, round);
+    for (int k = 0; k < r->count; k++)
+        for (int s = 0; s < SETS; s++) {
+            qsort(samples[k][s], r->rounds, sizeof(double), ascending);
+            r->implementations[k].best[s] = samples[k][s][0];
+            r->implementations[k].median[s] = samples[k][s][r->rounds / 2];
+        }
+}
+
+// No formula stands at place 99, so this reads the whole question and hands out nothing.
+static uint32_t read_whole(const uint8_t *question, size_t length, uint64_t out[2])
+{
+    return gekunday_formula(question, length, 0, 99, out);
+}
+
+static double reading_pass(read_call *read, const question_set *set, int times)
+{
+    double start = now();
+    for (int k = 0; k < times; k++)
+        for (int i = 0; i < set->count; i++) {
+            uint64_t out[2];
+            read(set->questions[i].bytes, set->questions[i].length, out);
+        }
+    return (now() - start) / times / set->count;
+}
+
+static double lesser(double a, double b) { return a < b ? a : b; }
+
+static void time_reading(reading_time *t, const question_set *set, int rounds)
+{
+    int times = 1 + 20e6 / (set->count * reading_pass(peer_scan, set, 10));
+    *t = (reading_time){ set->title, 1e18, 1e18 };
+    for (int round = 0; round < rounds; round++) {
+        t->ours = lesser(t->ours, reading_pass(read_whole, set, times));
+        t->peer = lesser(t->peer, reading_pass(peer_scan, set, times));
+        t->peer = lesser(t->peer, reading_pass(peer_scan_clang, set, times));
+    }
+}
+
+static FILE *open_out(const char *directory, const char *name)
+{
+    char path[512];
+    snprintf(path, sizeof path, "%s/%s", directory, name);
+    FILE *file = fopen(path, "w");
+    if (!file)
+        perror(path), exit(1);
+    return file;
+}
+
+int main(int count, char **arguments)
+{
+    static results r;
+    const char *out = count > 1 ? arguments[1] : ".", *rounds = getenv("BENCH_ROUNDS");
+    setvbuf(stdout, 0, _IOLBF, 0);
+    r.rounds = rounds ? atoi(rounds) : 15;
+    if (r.rounds < 1 || r.rounds > MOST_ROUNDS)
+        r.rounds = 15;
+    r.sets[0] = editor_set();
+    r.sets[1] = limits_set();
+    question_set longest = long_set();
+    bool lisp = lisp_start(out, r.sets, SETS);
+    list_implementations(&r, lisp);
+    check_cases(&r);
+    for (int s = 0; s < SETS; s++)
+        check_set(&r, s);
+    printf("bench: all agree\n\n");
+    time_all(&r);
+    time_reading(&r.readings[0], &r.sets[0], r.rounds);
+    time_reading(&r.readings[1], &r.sets[1], r.rounds);
+    time_reading(&r.readings[2], &longest, r.rounds);
+    probe_stacks(&r.sets[1], &longest, r.stacks);
+    FILE *table = open_out(out, "table.md"), *plot = open_out(out, "plot.svg");
+    write_table(table, &r);
+    write_table(stdout, &r);
+    write_plot(plot, &r);
+    fclose(table);
+    fclose(plot);
+    if (lisp)
+        lisp_stop();
+    return 0;
+}

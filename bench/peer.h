@@ -1,0 +1,37 @@
+// What the peers share: the reader, and one signature for everything that decides.
+#pragma once
+#include <stddef.h>
+#include <stdint.h>
+
+#ifdef __cplusplus
+extern "C" {
+#endif
+
+enum { MOST_BYTES = 212, MOST_CONNECTIVES = 48, MOST_A_SIDE = 16, MOST_FORMULAS = 80, LAMPS = 32 };
+enum { LEFT_SIDE = 0x10, RIGHT_SIDE = 0x20, LETTER = 1, NOT = 2, AND = 3, OR = 4, IMPLIES = 5, EQUIV = 6 };
+enum { TOO_LONG = 1, CUT, WRONG_COMMAND, MANY_FORMULAS, NO_SUCH_LAMP, MANY_CONNECTIVES, LEFT_OVER, FULL, SPENT };
+
+// A question as read: where its commands and the formulas of each side start.
+typedef struct {
+    uint32_t number, place; // the refusal, 0 for none
+    uint8_t commands, connectives, formulas[2];
+    uint8_t starts[2][MOST_A_SIDE];
+    uint8_t command[MOST_BYTES];
+} reading;
+
+// Document 01's reader. The answer is the refusal's number.
+uint32_t peer_read(const uint8_t *question, size_t length, reading *r);
+
+// The same check and nothing kept, for the reading benchmark.
+uint32_t peer_scan(const uint8_t *question, size_t length, uint64_t out[2]);
+
+// The start of the second part of each connective with two parts.
+void second_parts(const uint8_t *question, const reading *r, uint8_t second[MOST_BYTES]);
+
+// As gekunday_decide. Those that build no tree leave the state and both counts 0.
+typedef uint32_t decide(const uint8_t *question, size_t length, uint64_t budget, uint64_t out[4]);
+decide peer_value_decide, peer_best_decide, peer_sets_decide, truth_table_decide, cadical_decide;
+
+#ifdef __cplusplus
+}
+#endif

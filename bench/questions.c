@@ -1,0 +1,333 @@
+// Questions from fixed seeds. A family proposes questions, and a set keeps those of the wanted size and verdict.
+#include "questions.h"
+#include <stdbool.h>
+#include <stdlib.h>
+#include <string.h>
+
+typedef struct formula {
+    uint8_t connective, lamp; // LETTER, or a connective
+    const struct formula *f, *g;
+} formula;
+
+typedef struct {
+    const formula *side[2][MOST_A_SIDE];
+    int count[2];
+} sequent;
+
+typedef struct {
+    int least_connectives, most_connectives, least_letters, most_letters, most_a_side;
+    uint64_t least_reductions, most_reductions;
+} size;
+
+static uint64_t seed;
+static formula arena[4096];
+static int used;
+
+static uint64_t draw(void)
+{
+    uint64_t z = seed += 0x9e3779b97f4a7c15;
+    z = (z ^ z >> 30) * 0xbf58476d1ce4e5b9;
+    z = (z ^ z >> 27) * 0x94d049bb133111eb;
+    return z ^ z >> 31;
+}
+
+static int below(int n) { return draw() % n; }
+static int between(int a, int b) { return a + below(b - a + 1); }
+
+static const formula *make(int connective, int lamp, const formula *f, const formula *g)
+{
+    if (used == 4096)
+        abort();
+    arena[used] = (formula){ connective, lamp, f, g };
+    return &arena[used++];
+}
+
+static const formula *letter(int letters) { return make(LETTER, below(letters), 0, 0); }
+static const formula *not(const formula *f) { return make(NOT, 0, f, 0); }
+static const formula *two(int connective, const formula *f, const formula *g) { return make(connective, 0, f, g); }
+static const formula *literal(int letters) { return below(3) ? letter(letters) : not(letter(letters)); }
+
+static const formula *two_literals(int connective, int letters)
+{
+    const formula *f = literal(letters), *g = literal(letters);
+    return two(connective, f, g);
+}
+
+static int connectives_of(const formula *f)
+{
+    return !f ? 0 : f->connective == LETTER ? 0 : 1 + connectives_of(f->f) + connectives_of(f->g);
+}
+
+static const formula *random_formula(int connectives, int letters)
+{
+    if (connectives == 0)
+        return letter(letters);
+    if (below(5) == 0)
+        return not(random_formula(connectives - 1, letters));
+    int of_f = below(connectives);
+    int connective = between(AND, EQUIV);
+    const formula *f = random_formula(of_f, letters);
+    return two(connective, f, random_formula(connectives - 1 - of_f, letters));
+}
+
+// An equivalent formula that looks different.
+static const formula *rewritten(const formula *x)
+{
+    if (x->connective == LETTER)
+        return below(8) ? x : not(not(x));
+    const formula *f = rewritten(x->f);
+    if (x->connective == NOT)
+        return f->connective == NOT && below(2) ? f->f : not(f);
+    const formula *g = rewritten(x->g);
+    int way = below(3);
+    if (x->connective == IMPLIES)
+        return way == 0 ? two(OR, not(f), g) : way == 1 ? two(IMPLIES, not(g), not(f)) : two(IMPLIES, f, g);
+    if (x->connective == EQUIV)
+        return way == 0 ? two(EQUIV, f, g) : two(EQUIV, g, f);
+    if (way == 0)
+        return not(two(x->connective == AND ? OR : AND, not(f), not(g)));
+    return way == 1 ? two(x->connective, f, g) : two(x->connective, g, f);
+}
+
+// The same with one letter or connective changed.
+static const formula *damaged(const formula *x, int letters)
+{
+    if (x->connective == LETTER)
+        return letter(letters);
+    if (x->connective == NOT)
+        return not(damaged(x->f, letters));
+    switch (below(3)) {
+    case 0: return two(between(AND, EQUIV), x->f, x->g);
+    case 1: return two(x->connective, damaged(x->f, letters), x->g);
+    default: return two(x->connective, x->f, damaged(x->g, letters));
+    }
+}
+
+static void add(sequent *s, int side, const formula *f)
+{
+    if (s->count[side] < MOST_A_SIDE)
+        s->side[side][s->count[side]++] = f;
+}
+
+// A rule of the wall: one or two conditions imply, or are equivalent to, one or two lamps.
+static const formula *rule(int letters)
+{
+    const formula *if_ = below(2) ? literal(letters) : two_literals(below(4) ? AND : OR, letters);
+    const formula *then = below(2) ? literal(letters) : two_literals(below(3) ? AND : OR, letters);
+    return two(below(4) ? IMPLIES : EQUIV, if_, then);
+}
+
+// Do the rules exclude the conditions A and B at once?
+static void exclusion(sequent *s, int connectives, int letters)
+{
+    const formula *a = letter(letters), *b = letter(letters);
+    int spare = connectives - 2;
+    while (spare > 1) {
+        const formula *r = rule(letters);
+        add(s, 0, r);
+        spare -= connectives_of(r);
+        if (s->count[0] == MOST_A_SIDE)
+            break;
+    }
+    if (spare > 2 && below(2))
+        add(s, 1, random_formula(spare, letters));
+    add(s, 1, not(two(AND, a, b)));
+}
+
+// A formula on the left, its rewriting on the right, perhaps damaged.
+static void rewriting(sequent *s, int connectives, int letters)
+{
+    const formula *f = random_formula(connectives * 2 / 5, letters);
+    const formula *g = rewritten(f);
+    add(s, 0, f);
+    add(s, 1, below(2) ? g : damaged(g, letters));
+    while (connectives_of(f) + connectives_of(g) + 3 < connectives && s->count[0] < 4) {
+        const formula *more = random_formula(3, letters);
+        add(s, below(2), more);
+        connectives -= 3;
+    }
+}
+
+static void random_sequent(sequent *s, int connectives, int letters, int most_a_side)
+{
+    int n = between(1, most_a_side), m = between(1, most_a_side);
+    for (int i = n + m; i > 0; i--) {
+        int share = i == 1 ? connectives : below(2 * connectives / i + 1);
+        share = share < connectives ? share : connectives;
+        add(s, i > m ? 0 : 1, random_formula(share, letters));
+        connectives -= share;
+    }
+}
+
+static int letters_of(const formula *f, uint32_t *seen)
+{
+    if (!f)
+        return 0;
+    if (f->connective == LETTER)
+        *seen |= 1u << f->lamp;
+    letters_of(f->f, seen);
+    letters_of(f->g, seen);
+    return __builtin_popcount(*seen);
+}
+
+static int put(uint8_t *bytes, int at, const formula *f)
+{
+    bytes[at++] = f->connective;
+    if (f->connective == LETTER) {
+        bytes[at++] = f->lamp;
+        return at;
+    }
+    at = put(bytes, at, f->f);
+    return f->g ? put(bytes, at, f->g) : at;
+}
+
+static void encode(const sequent *s, question *q)
+{
+    int at = 0;
+    for (int side = 0; side < 2; side++) {
+        q->bytes[at++] = side ? RIGHT_SIDE : LEFT_SIDE;
+        q->bytes[at++] = s->count[side];
+        for (int i = 0; i < s->count[side]; i++)
+            at = put(q->bytes, at, s->side[side][i]);
+    }
+    q->length = at;
+}
+
+static bool fits(const sequent *s, const size *z)
+{
+    int connectives = 0, letters = 0;
+    uint32_t seen = 0;
+    for (int side = 0; side < 2; side++)
+        for (int i = 0; i < s->count[side]; i++) {
+            connectives += connectives_of(s->side[side][i]);
+            letters = letters_of(s->side[side][i], &seen);
+        }
+    return connectives >= z->least_connectives && connectives <= z->most_connectives && letters >= z->least_letters &&
+           letters <= z->most_letters && s->count[0] <= z->most_a_side && s->count[1] <= z->most_a_side;
+}
+
+static sequent proposal(int family, const size *z)
+{
+    sequent s = { 0 };
+    used = 0;
+    int connectives = between(z->least_connectives, z->most_connectives);
+    int letters = between(z->least_letters, z->most_letters);
+    if (family == 0)
+        exclusion(&s, connectives, letters);
+    else if (family == 1)
+        rewriting(&s, connectives, letters);
+    else
+        random_sequent(&s, connectives, letters, z->most_a_side);
+    return s;
+}
+
+// One question of the wanted verdict. Where the size has a least tree, each question draws its own least, 1 to 32 times
+// that, and its tree is at most four times its least.
+static void choose(question *q, int family, bool refuted, const size *z)
+{
+    uint64_t out[4], least = z->least_reductions, most = z->most_reductions;
+    if (least > 0) {
+        least <<= below(6);
+        most = least * 4 < most ? least * 4 : most;
+    }
+    for (;;) {
+        sequent s = proposal(family, z);
+        if (!fits(&s, z))
+            continue;
+        encode(&s, q);
+        uint32_t number = peer_sets_decide(q->bytes, q->length, most, out);
+        if (number == 0 && out[0] == refuted && out[2] >= least)
+            return;
+    }
+}
+
+static question_set set_of(const char *name, const char *title, int count)
+{
+    return (question_set){ .name = name, .title = title, .count = count,
+                           .questions = calloc(count, sizeof(question)), .answers = calloc(count, sizeof(uint64_t[4])) };
+}
+
+static void answer_all(question_set *set)
+{
+    for (int i = 0; i < set->count; i++) {
+        const question *q = &set->questions[i];
+        peer_value_decide(q->bytes, q->length, BUDGET, set->answers[i]);
+        set->reductions += set->answers[i][2];
+        set->refuted += set->answers[i][0];
+    }
+}
+
+static question_set chosen(question_set set, uint64_t from, const size *z)
+{
+    seed = from;
+    for (int i = 0; i < set.count; i++)
+        choose(&set.questions[i], i / 2 % 3, i % 2, z);
+    answer_all(&set);
+    return set;
+}
+
+question_set editor_set(void)
+{
+    size z = { 6, 14, 3, 8, 4, 0, 10000 };
+    return chosen(set_of("editor", "Editor-size questions", EDITOR_QUESTIONS), 34, &z);
+}
+
+question_set limits_set(void)
+{
+    size z = { 36, 48, 6, 20, 16, 2000, 300000 };
+    return chosen(set_of("limits", "Questions near the limits", LIMITS_QUESTIONS), 1960, &z);
+}
+
+// 16 formulas a side, 48 connectives with two parts each.
+question_set long_set(void)
+{
+    question_set set = set_of("long", "Questions of 212 bytes", LONG_QUESTIONS);
+    seed = 212;
+    for (int i = 0; i < set.count; i++) {
+        sequent s = { 0 };
+        used = 0;
+        for (int k = 0; k < 2 * MOST_A_SIDE; k++)
+            s.side[k / MOST_A_SIDE][k % MOST_A_SIDE] = letter(LAMPS);
+        s.count[0] = s.count[1] = MOST_A_SIDE;
+        for (int k = 0; k < MOST_CONNECTIVES; k++) {
+            const formula **side = s.side[below(2)], **at = side + below(MOST_A_SIDE);
+            int connective = between(AND, EQUIV);
+            const formula *more = letter(LAMPS);
+            *at = below(2) ? two(connective, *at, more) : two(connective, more, *at);
+        }
+        encode(&s, &set.questions[i]);
+    }
+    return set;
+}
+
+static int write_formula(FILE *file, const uint8_t *bytes, int at)
+{
+    static const char *const names[] = { [NOT] = "NOT", [AND] = "AND", [OR] = "OR", [IMPLIES] = "IMPLIES",
+                                         [EQUIV] = "EQUIV" };
+    uint8_t command = bytes[at++];
+    if (command == LETTER) {
+        fprintf(file, " L%d", bytes[at]);
+        return at + 1;
+    }
+    fprintf(file, " (%s", names[command]);
+    at = write_formula(file, bytes, at);
+    if (command != NOT)
+        at = write_formula(file, bytes, at);
+    fputc(')', file);
+    return at;
+}
+
+void write_lisp(FILE *file, const question *q)
+{
+    int at = 0;
+    fprintf(file, "(ARROW");
+    for (int side = 0; side < 2; side++) {
+        int count = q->bytes[at + 1];
+        at += 2;
+        fprintf(file, " (");
+        while (count-- > 0)
+            at = write_formula(file, q->bytes, at);
+        fputc(')', file);
+    }
+    fprintf(file, ")\n");
+}

@@ -1,0 +1,26 @@
+// The benchmark's questions: the same ones on every run and every machine.
+#pragma once
+#include "peer.h"
+#include <stdio.h>
+
+enum { BUDGET = 1000000, EDITOR_QUESTIONS = 400, LIMITS_QUESTIONS = 200, LONG_QUESTIONS = 200 };
+
+typedef struct {
+    uint8_t bytes[MOST_BYTES];
+    uint8_t length;
+} question;
+
+typedef struct {
+    const char *name, *title;
+    int count;
+    question *questions;
+    uint64_t (*answers)[4]; // by peer_value, with budget BUDGET
+    uint64_t reductions, refuted;
+} question_set;
+
+question_set editor_set(void); // 6 to 14 connectives
+question_set limits_set(void); // 36 to 48 connectives, 2,000 reductions and more
+question_set long_set(void);   // 212 bytes, for reading; their trees can be too large to decide
+
+// The question as DR 34 writes it: (ARROW (...) (...)).
+void write_lisp(FILE *file, const question *q);

@@ -1,0 +1,140 @@
+// Document 01's reader with refusals 1 to 7.
+#include "peer.h"
+
+typedef struct {
+    const uint8_t *bytes;
+    uint32_t length, at, number;
+} cursor;
+
+static int refuse(cursor *c, uint32_t number, uint32_t place)
+{
+    c->number = number;
+    c->at = place;
+    return 0;
+}
+
+// One command with an operand, as 10 n and 20 n.
+static int read_head(cursor *c, uint8_t command, uint32_t *count)
+{
+    if (c->at == c->length)
+        return refuse(c, CUT, c->length);
+    if (c->bytes[c->at] != command)
+        return refuse(c, WRONG_COMMAND, c->at);
+    if (++c->at == c->length)
+        return refuse(c, CUT, c->length);
+    *count = c->bytes[c->at];
+    if (*count > MOST_A_SIDE)
+        return refuse(c, MANY_FORMULAS, c->at);
+    c->at++;
+    return 1;
+}
+
+// The formulas of a side. `due` are those still expected, parts too; `waiting` the side's own not yet begun.
+static int read_side(cursor *c, int side, reading *r)
+{
+    uint32_t due, waiting;
+    if (!read_head(c, side ? RIGHT_SIDE : LEFT_SIDE, &due))
+        return 0;
+    r->formulas[side] = waiting = due;
+    while (due > 0) {
+        if (c->at == c->length)
+            return refuse(c, CUT, c->length);
+        if (due == waiting)
+            r->starts[side][r->formulas[side] - waiting--] = c->at;
+        uint8_t command = c->bytes[c->at];
+        r->command[r->commands++] = c->at;
+        if (command == LETTER) {
+            if (c->at + 1 == c->length)
+                return refuse(c, CUT, c->length);
+            if (c->bytes[c->at + 1] >= LAMPS)
+                return refuse(c, NO_SUCH_LAMP, c->at + 1);
+            c->at += 2;
+            due--;
+        } else if (command >= NOT && command <= EQUIV) {
+            if (r->connectives == MOST_CONNECTIVES)
+                return refuse(c, MANY_CONNECTIVES, c->at);
+            r->connectives++;
+            c->at++;
+            due += command != NOT;
+        } else {
+            return refuse(c, WRONG_COMMAND, c->at);
+        }
+    }
+    return 1;
+}
+
+uint32_t peer_read(const uint8_t *question, size_t length, reading *r)
+{
+    r->number = TOO_LONG;
+    r->place = MOST_BYTES;
+    r->commands = r->connectives = 0;
+    if (length > MOST_BYTES)
+        return TOO_LONG;
+    cursor c = { question, length, 0, 0 };
+    if (read_side(&c, 0, r) && read_side(&c, 1, r) && c.at != length)
+        refuse(&c, LEFT_OVER, c.at);
+    r->place = c.at;
+    return r->number = c.number;
+}
+
+static uint32_t stop(uint64_t out[2], uint32_t number, uint64_t place)
+{
+    out[0] = place;
+    out[1] = 0;
+    return number;
+}
+
+uint32_t peer_scan(const uint8_t *question, size_t length, uint64_t out[2])
+{
+    size_t at = 0;
+    uint32_t connectives = 0;
+    if (length > MOST_BYTES)
+        return stop(out, TOO_LONG, MOST_BYTES);
+    for (int side = 0; side < 2; side++) {
+        if (at == length)
+            return stop(out, CUT, length);
+        if (question[at] != (side ? RIGHT_SIDE : LEFT_SIDE))
+            return stop(out, WRONG_COMMAND, at);
+        if (++at == length)
+            return stop(out, CUT, length);
+        uint32_t due = question[at];
+        if (due > MOST_A_SIDE)
+            return stop(out, MANY_FORMULAS, at);
+        for (at++; due > 0;) {
+            if (at == length)
+                return stop(out, CUT, length);
+            uint8_t command = question[at++];
+            if (command == LETTER) {
+                if (at == length)
+                    return stop(out, CUT, length);
+                if (question[at++] >= LAMPS)
+                    return stop(out, NO_SUCH_LAMP, at - 1);
+                due--;
+            } else if (command >= NOT && command <= EQUIV) {
+                if (connectives++ == MOST_CONNECTIVES)
+                    return stop(out, MANY_CONNECTIVES, at - 1);
+                due += command != NOT;
+            } else {
+                return stop(out, WRONG_COMMAND, at - 1);
+            }
+        }
+    }
+    return at == length ? stop(out, 0, 0) : stop(out, LEFT_OVER, at);
+}
+
+// From the last command back, with the starts of the formulas that wait for their connective.
+void second_parts(const uint8_t *question, const reading *r, uint8_t second[MOST_BYTES])
+{
+    uint8_t starts[MOST_BYTES];
+    uint32_t top = 0;
+    for (int i = r->commands - 1; i >= 0; i--) {
+        uint8_t at = r->command[i], command = question[at];
+        if (command >= AND) {
+            second[at] = starts[top - 2];
+            top--;
+        } else if (command == LETTER) {
+            top++;
+        }
+        starts[top - 1] = at;
+    }
+}

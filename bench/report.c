@@ -1,0 +1,168 @@
+// The table in Markdown and the plot in SVG.
+#include "bench.h"
+#include <math.h>
+#include <string.h>
+
+static void format_time(char *text, int room, double ns)
+{
+    if (ns < 1e3)
+        snprintf(text, room, ns < 10 ? "%.2f ns" : ns < 100 ? "%.1f ns" : "%.0f ns", ns);
+    else if (ns < 1e6)
+        snprintf(text, room, ns < 1e4 ? "%.2f µs" : ns < 1e5 ? "%.1f µs" : "%.0f µs", ns / 1e3);
+    else
+        snprintf(text, room, ns < 1e7 ? "%.2f ms" : "%.1f ms", ns / 1e6);
+}
+
+static void write_set(FILE *file, const results *r, int s)
+{
+    const question_set *set = &r->sets[s];
+    double ours = r->implementations[0].best[s];
+    fprintf(file, "## %s\n\n", set->title);
+    fprintf(file, "%d questions, %d of them refuted; %.0f reductions a question on average.\n\n", set->count,
+            (int)set->refuted, (double)set->reductions / set->count);
+    fprintf(file, "| implementation | what | a question | a reduction | median | gekunday / it |\n");
+    fprintf(file, "|---|---|---:|---:|---:|---:|\n");
+    for (int k = 0; k < r->count; k++) {
+        const implementation *m = &r->implementations[k];
+        char best[32], median[32], reduction[32] = "";
+        format_time(best, sizeof best, m->best[s]);
+        format_time(median, sizeof median, m->median[s]);
+        if (m->tree)
+            format_time(reduction, sizeof reduction, m->best[s] * set->count / set->reductions);
+        fprintf(file, "| %s | %s | %s | %s | %s | %.2f |\n", m->name, m->note, best, reduction, median,
+                ours / m->best[s]);
+    }
+    fprintf(file, "\n");
+}
+
+// The headline is the faster build of peer_value.
+static double headline(const results *r, int s)
+{
+    double least = INFINITY;
+    for (int k = 0; k < r->count; k++)
+        if (!strncmp(r->implementations[k].name, "peer_value", 10))
+            least = fmin(least, r->implementations[k].best[s]);
+    return r->implementations[0].best[s] / least;
+}
+
+static void write_readings(FILE *file, const results *r)
+{
+    fprintf(file, "## Reading\n\n| questions | gekunday_formula, place 99 | peer's reader | ratio | share of decide |\n");
+    fprintf(file, "|---|---:|---:|---:|---:|\n");
+    for (int i = 0; i <= SETS; i++) {
+        const reading_time *t = &r->readings[i];
+        char ours[32], peer[32], share[32] = "";
+        format_time(ours, sizeof ours, t->ours);
+        format_time(peer, sizeof peer, t->peer);
+        if (i < SETS)
+            snprintf(share, sizeof share, "%.1f %%", 100 * t->ours / r->implementations[0].best[i]);
+        fprintf(file, "| %s | %s | %s | %.2f | %s |\n", t->set, ours, peer, t->ours / t->peer, share);
+    }
+}
+
+void write_table(FILE *file, const results *r)
+{
+    fprintf(file, "# Time of a decision\n\n");
+    fprintf(file, "Best of %d rounds (and the median); below 1.00 gekunday is the faster.\n\n", r->rounds);
+    fprintf(file, "**Against the faster peer_value: %.2f on editor-size questions, %.2f near the limits.**\n\n",
+            headline(r, 0), headline(r, 1));
+    for (int s = 0; s < SETS; s++)
+        write_set(file, r, s);
+    write_readings(file, r);
+    fprintf(file, "\n## Stack\n\n| call | greatest depth | questions tried |\n|---|---:|---:|\n");
+    for (int i = 0; i < 4; i++) {
+        const stack_use *u = &r->stacks[i];
+        if (u->questions)
+            fprintf(file, "| %s | %s%zu bytes | %d |\n", u->call, u->bytes > LEAST_DEPTH ? "" : "at most ", u->bytes,
+                    u->questions);
+        else
+            fprintf(file, "| %s | not measured | 0 |\n", u->call);
+    }
+}
+
+enum { WIDTH = 860, LABELS = 190, PLOT = 560, ROW = 24, HEAD = 64, GAP = 38 };
+
+typedef struct {
+    double low, high; // powers of ten
+} scale;
+
+// Each set has its own: theirs are far apart.
+static scale scale_of(const results *r, int s)
+{
+    double low = INFINITY, high = 0;
+    for (int k = 0; k < r->count; k++) {
+        low = fmin(low, r->implementations[k].best[s]);
+        high = fmax(high, r->implementations[k].best[s]);
+    }
+    return (scale){ floor(log10(low)), ceil(log10(high)) };
+}
+
+static double x_of(scale c, double ns) { return LABELS + PLOT * (log10(ns) - c.low) / (c.high - c.low); }
+
+static void write_line(FILE *file, const char *class, double x, double top, double bottom)
+{
+    fprintf(file, "<line class='%s' x1='%.1f' y1='%.1f' x2='%.1f' y2='%.1f'/>\n", class, x, top, x, bottom);
+}
+
+static void write_axis(FILE *file, scale c, double top, double bottom)
+{
+    for (double e = c.low; e <= c.high; e++) {
+        double x = x_of(c, pow(10, e)), value = pow(10, e - 3 * floor(e / 3));
+        const char *unit = e < 3 ? "ns" : e < 6 ? "µs" : e < 9 ? "ms" : "s";
+        write_line(file, "grid", x, top, bottom);
+        fprintf(file, "<text class='tick' x='%.1f' y='%.1f'>%.0f %s</text>\n", x, bottom + 16, value, unit);
+        for (int k = 2; k <= 9 && e < c.high; k++)
+            write_line(file, "fine", x_of(c, k * pow(10, e)), top, bottom);
+    }
+}
+
+static void write_bars(FILE *file, const results *r, int s, scale c, double top)
+{
+    for (int k = 0; k < r->count; k++) {
+        const implementation *m = &r->implementations[k];
+        const char *class = k == 0 ? "ours" : m->tree ? "tree" : "other";
+        double y = top + k * ROW, x = x_of(c, m->best[s]);
+        char text[32];
+        format_time(text, sizeof text, m->best[s]);
+        fprintf(file, "<text class='label%s' x='%d' y='%.1f'>%s</text>\n", k == 0 ? " first" : "", LABELS - 10, y + 16,
+                m->name);
+        fprintf(file, "<rect class='%s' x='%d' y='%.1f' width='%.1f' height='%d' rx='2'/>\n", class, LABELS, y + 4,
+                fmax(1, x - LABELS), ROW - 8);
+        fprintf(file, "<text class='value' x='%.1f' y='%.1f'>%s</text>\n", x + 6, y + 16, text);
+    }
+}
+
+static void write_legend(FILE *file, double y)
+{
+    static const char *const class[] = { "ours", "tree", "other" };
+    static const char *const text[] = { "gekunday", "the same tree in C", "other methods" };
+    static const int x[] = { LABELS, LABELS + 110, LABELS + 270 };
+    for (int i = 0; i < 3; i++) {
+        fprintf(file, "<rect class='%s' x='%d' y='%.1f' width='12' height='12' rx='2'/>\n", class[i], x[i], y - 10);
+        fprintf(file, "<text class='key' x='%d' y='%.1f'>%s</text>\n", x[i] + 18, y, text[i]);
+    }
+}
+
+void write_plot(FILE *file, const results *r)
+{
+    double panel = r->count * ROW + 2 * GAP, height = HEAD + SETS * panel + 16;
+    fprintf(file, "<svg xmlns='http://www.w3.org/2000/svg' viewBox='0 0 %d %.0f' width='%d' height='%.0f'>\n", WIDTH,
+            height, WIDTH, height);
+    fprintf(file, "<style>text{font-family:'DejaVu Sans',Helvetica,Arial,sans-serif;font-size:12px;fill:#222}"
+                  ".title{font-size:17px;font-weight:bold}.panel{font-size:14px;font-weight:bold}"
+                  ".label{text-anchor:end}.first{font-weight:bold}.tick{text-anchor:middle;fill:#666;font-size:11px}"
+                  ".value{font-size:11px;paint-order:stroke;stroke:#fff;stroke-width:4px}"
+                  ".key{fill:#444}.grid{stroke:#ccc}.fine{stroke:#eee}"
+                  ".ours{fill:#c0392b}.tree{fill:#2f6690}.other{fill:#9aa5ad}</style>\n");
+    fprintf(file, "<rect width='100%%' height='100%%' fill='#fff'/>\n");
+    fprintf(file, "<text class='title' x='20' y='30'>Time to decide one question (log scale, shorter is faster)</text>\n");
+    write_legend(file, 54);
+    for (int s = 0; s < SETS; s++) {
+        double top = HEAD + s * panel + GAP - 4;
+        scale c = scale_of(r, s);
+        fprintf(file, "<text class='panel' x='%d' y='%.1f'>%s</text>\n", LABELS, top - 8, r->sets[s].title);
+        write_axis(file, c, top, top + r->count * ROW);
+        write_bars(file, r, s, c, top);
+    }
+    fprintf(file, "</svg>\n");
+}

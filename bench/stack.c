@@ -1,0 +1,128 @@
+// How deep the library's calls go: on a thread whose stack is painted below the caller's frame.
+#define _GNU_SOURCE
+#include "bench.h"
+#include "library.h"
+#include <pthread.h>
+#include <stdlib.h>
+#include <string.h>
+#include <sys/mman.h>
+
+enum { STACK = 1 << 20, PAINT = 0xa5, ROOM = 1 << 21 };
+
+typedef enum { DECIDE, DERIVE, CHECK, WIDTH } call;
+
+typedef struct {
+    call call;
+    const question *question;
+    uint8_t *stack, *buffer;
+    size_t length, depth;
+} probe;
+
+static void run_call(probe *p)
+{
+    uint64_t out[4];
+    const uint8_t *bytes = p->question->bytes;
+    size_t length = p->question->length;
+    switch (p->call) {
+    case DECIDE: gekunday_decide(bytes, length, BUDGET, out); break;
+    case DERIVE: p->length = gekunday_derive(bytes, length, BUDGET, p->buffer, ROOM, out) ? 0 : out[0]; break;
+    case CHECK: gekunday_check(bytes, length, p->buffer, p->length, out); break;
+    case WIDTH: gekunday_width(bytes, length, out); break;
+    }
+}
+
+static void *painted(void *argument)
+{
+    probe *p = argument;
+    uint8_t *frame = __builtin_frame_address(0);
+    volatile uint8_t *below = p->stack;
+    while (below < frame - LEAST_DEPTH)
+        *below++ = PAINT;
+    run_call(p);
+    below = p->stack;
+    while (below < frame - LEAST_DEPTH && *below == PAINT)
+        below++;
+    p->depth = frame - (uint8_t *)below;
+    return 0;
+}
+
+static size_t depth_of(probe *p)
+{
+    pthread_attr_t attributes;
+    pthread_t thread;
+    pthread_attr_init(&attributes);
+    pthread_attr_setstack(&attributes, p->stack, STACK);
+    if (pthread_create(&thread, &attributes, painted, p)) {
+        fprintf(stderr, "bench: no thread for the stack probe\n");
+        exit(1);
+    }
+    pthread_join(thread, 0);
+    return p->depth;
+}
+
+static void note(stack_use *use, probe *p, call c)
+{
+    p->call = c;
+    size_t depth = depth_of(p);
+    use->questions++;
+    if (depth > use->bytes)
+        use->bytes = depth;
+}
+
+static void probe_question(probe *p, const question *q, stack_use stacks[4])
+{
+    p->question = q;
+    p->length = 0;
+    note(&stacks[DECIDE], p, DECIDE);
+    note(&stacks[DERIVE], p, DERIVE);
+    if (p->length > 0)
+        note(&stacks[CHECK], p, CHECK);
+    note(&stacks[WIDTH], p, WIDTH);
+}
+
+// 48 connectives nested as deep as they go, in the first part or the last: in one formula on the right, or 24 on each side
+// in equal formulas, a theorem.
+static question nested(int connective, bool last, bool both)
+{
+    question q = { .length = 0 };
+    int deep = both ? MOST_CONNECTIVES / 2 : MOST_CONNECTIVES;
+    for (int side = 0; side < 2; side++) {
+        q.bytes[q.length++] = side ? RIGHT_SIDE : LEFT_SIDE;
+        q.bytes[q.length++] = side || both;
+        if (!side && !both)
+            continue;
+        for (int i = 0; i < deep; i++) {
+            q.bytes[q.length++] = connective;
+            if (last && connective != NOT)
+                q.bytes[q.length++] = LETTER, q.bytes[q.length++] = i % 8;
+        }
+        q.bytes[q.length++] = LETTER, q.bytes[q.length++] = 9;
+        for (int i = 0; i < deep && !last && connective != NOT; i++)
+            q.bytes[q.length++] = LETTER, q.bytes[q.length++] = i % 8;
+    }
+    return q;
+}
+
+void probe_stacks(const question_set *limits, const question_set *longest, stack_use stacks[4])
+{
+    static const char *const names[] = { "gekunday_decide", "gekunday_derive", "gekunday_check", "gekunday_width" };
+    probe p = { .stack = mmap(0, STACK, PROT_READ | PROT_WRITE, MAP_PRIVATE | MAP_ANONYMOUS, -1, 0),
+                .buffer = malloc(ROOM) };
+    for (int i = 0; i < 4; i++)
+        stacks[i] = (stack_use){ .call = names[i] };
+    for (int connective = NOT; connective <= EQUIV; connective++)
+        for (int way = 0; way < 4; way++) {
+            question q = nested(connective, way & 1, way & 2);
+            probe_question(&p, &q, stacks);
+        }
+    for (int i = 0; i < limits->count; i++) {
+        reading r;
+        const question *q = &limits->questions[i];
+        if (peer_read(q->bytes, q->length, &r) == 0 && r.connectives == MOST_CONNECTIVES)
+            probe_question(&p, q, stacks);
+    }
+    for (int i = 0; i < longest->count; i += 20)
+        probe_question(&p, &longest->questions[i], stacks);
+    free(p.buffer);
+    munmap(p.stack, STACK);
+}
