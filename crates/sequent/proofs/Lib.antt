@@ -2,3 +2,5 @@
 pub mod Lanes
 pub mod Rows
 pub mod Changes
+pub mod Masks
+pub mod Premises

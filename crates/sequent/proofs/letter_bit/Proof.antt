@@ -1,3 +1,7 @@
+use Prim.Native.Nat.{_+_}
+use native.Mathlib.Omega.{arith}
+use Rattle.question.proofs.Walks.{well-inside}
+use Rattle.sequent.proofs.Premises.{letter-is, letter-bit, no-bit}
 use borrow.Author.Needs.{needs}
 use Rattle.sequent.proofs.letter_bit.Statement.{statement}
 use Rattle.sequent.proofs.letter_bit.Tie as tie
@@ -11,7 +15,7 @@ wide-requires c κs = search needs
 
 -- src/lib.rt:212:8
 shared-slice-read-if1 : tie.Need-shared-slice-read-if1
-shared-slice-read-if1 c = ?
+shared-slice-read-if1 c = omega (arith, c .before .wide .ensures, well-inside (c .before .before .before .args .q .now) (c .before .before .before .args .p) (c .before .before .before .pre .well))
 
 -- src/lib.rt:213:26
 add-result : tie.Need-add-result
@@ -19,23 +23,23 @@ add-result c = search needs
 
 -- src/lib.rt:213:24
 shared-slice-read-result : tie.Need-shared-slice-read-result
-shared-slice-read-result c = ?
+shared-slice-read-result c = omega (arith, c .before .before .before .wide .ensures, well-inside (c .before .before .before .before .before .args .q .now) (c .before .before .before .before .before .args .p) (c .before .before .before .before .before .pre .well))
 
 -- src/lib.rt:213:24
 cast-result : tie.Need-cast-result
-cast-result c = ?
+cast-result c = omega (arith, c .shared-slice-known3 .given (c .before .before .before .wide .result + 1))
 
 -- src/lib.rt:213:16
 shl-result : tie.Need-shl-result
-shl-result c = ?
+shl-result c = let a = c .before .before .before .before .before .args in rw (c .before .before .before .wide .ensures) (letter-is (a .q .now) (a .p) (c .before .before .before .before .before .pre) (rw (c .before .before .before .wide .ensures) at (c .before .if1 .taken)) .1)
 
 -- src/lib.rt:213:9
 returns : tie.Need-returns
-returns c = ?
+returns c = let a = c .before .before .before .before .before .args in rw (c .before .before .before .wide .ensures) (letter-bit (a .q .now) (a .p) (c .before .before .before .before .before .pre) (rw (c .before .before .before .wide .ensures) at (c .before .if1 .taken)))
 
 -- src/lib.rt:207:1
 returns-2 : tie.Need-returns-2
-returns-2 c = ?
+returns-2 c = let a = c .before .before .before .before .args in no-bit (a .q .now) (a .p) (c .before .before .before .before .pre) (rw (c .before .before .wide .ensures) at (c .if1 .left))
 
 pub letter-bit-spec : {M : Type 1} → statement M
 letter-bit-spec =
