@@ -1,0 +1,2 @@
+-- Reducing the formula at a position of the question.
+pub mod Reduction
