@@ -2,7 +2,7 @@
 -- Assumes nothing.
 use mathlib.Core.Path.{_≡_, refl, sym, ap, _∙_}
 use mathlib.Core.Option.{Option, none, some}
-use mathlib.Core.List.{List, [], _∷_, _++_}
+use mathlib.Core.List.{List, [], _∷_}
 use Prim.Native.Nat.{ℕ, _+_, _≤_, _<_}
 use native.Mathlib.Nat.{add-zero}
 use native.Mathlib.Omega.{arith}
@@ -11,7 +11,7 @@ use lib.Seq.{drop-drop, getD-drop}
 use Rattle.calculus.specs.Syntax.{Binary, AND, OR, IMPLIES, EQUIV, Connective, NOT, two, Formula, letter, neg, join, Compound, whole}
 use Rattle.calculus.specs.Bytes.{Command, SIDE, LETTER, CONNECTIVE, code, command, encode, formulas, bytes}
 use Rattle.calculus.proofs.Spelling.{command-byte}
-use Rattle.question.specs.Positions.{Well, firstOf, formulaAt, endOf}
+use Rattle.question.specs.Positions.{Well, formulaAt, endOf}
 use Rattle.question.proofs.Readers.{connective-range}
 use Rattle.question.proofs.Walks.{skip-formulas, first-bytes}
 

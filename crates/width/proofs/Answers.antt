@@ -1,6 +1,6 @@
 -- The sides' products and the answer of an accepted question.
 -- Assumes nothing.
-use mathlib.Core.Path.{_≡_, refl, sym, ap, _∙_}
+use mathlib.Core.Path.{_≡_, refl}
 use mathlib.Core.List.{List}
 use Prim.Native.Nat.{ℕ, _+_, _*_, _^_, _≤_}
 use native.Mathlib.Nat.{le-trans}
@@ -13,7 +13,7 @@ use Rattle.calculus.specs.declared.Side.the-variants.{Left, Right}
 use Rattle.calculus.specs.Fold.{fold, SUM}
 use Rattle.calculus.specs.Limits.{CONNECTIVES}
 use Rattle.calculus.specs.Syntax.{on-side, connectives, c}
-use Rattle.calculus.specs.Bytes.{formulas, bytesAll, question, sideStart}
+use Rattle.calculus.specs.Bytes.{formulas, question, sideStart}
 use Rattle.calculus.specs.Reading.{accepted, refused, reading}
 use Rattle.calculus.specs.Reply.{widthReply}
 use Rattle.calculus.proofs.Bounds.{W-bound}

@@ -1,7 +1,7 @@
 -- The product over formulas that stand one after the other.
 -- Assumes nothing.
-use mathlib.Core.Path.{_≡_, refl, sym, ap, _∙_}
-use mathlib.Core.List.{List, [], _∷_, _++_}
+use mathlib.Core.Path.{_≡_, sym, ap, _∙_}
+use mathlib.Core.List.{List, [], _∷_}
 use Prim.Native.Nat.{ℕ, zero, suc, _+_, _-_, _*_, _^_, _≤_, _<_}
 use native.Mathlib.Nat.{add-assoc, mul-assoc, mul-le-mul, mul-one, add-zero, one-mul, zero-add, le-refl, le-trans}
 use native.Mathlib.Omega.{arith}

@@ -1,8 +1,8 @@
 -- A formula's walk from those of its parts, and its bounds.
 -- Assumes nothing.
-use mathlib.Core.Path.{_≡_, refl, sym, ap, _∙_, fun-ext}
+use mathlib.Core.Path.{_≡_, refl, sym, _∙_, fun-ext}
 use mathlib.Core.List.{List}
-use Prim.Native.Nat.{ℕ, suc, _+_, _^_, _≤_}
+use Prim.Native.Nat.{ℕ, suc, _+_, _≤_}
 use native.Mathlib.Numerals.{add-one}
 use native.Mathlib.Nat.{le-trans}
 use native.Mathlib.Omega.{arith}
@@ -13,7 +13,7 @@ use Rattle.calculus.specs.declared.Side.the-variants.{Left, Right}
 use Rattle.calculus.specs.Limits.{CONNECTIVES}
 use Rattle.calculus.specs.Syntax.{Binary, Connective, NOT, two, Formula, letter, neg, join, compound, connectives}
 use Rattle.calculus.specs.Bytes.{CONNECTIVE, code}
-use Rattle.calculus.specs.Width.{wide, width}
+use Rattle.calculus.specs.Width.{width}
 use Rattle.calculus.proofs.Bounds.{width-le}
 use Rattle.question.specs.Positions.{Well, formulaAt, endOf}
 use Rattle.question.proofs.Parts.{LetterAt, NotBehind, SecondAt, compound-at, is-not, is-two}

@@ -3,7 +3,7 @@ use calculus::Side;
 use question::Reading;
 use question::Refusal;
 ghost use mathlib.Core.Path.{_≡_};
-ghost use Prim.Native.Nat.{ℕ, _+_, _*_, _^_, _≤_, _<_};
+ghost use Prim.Native.Nat.{ℕ, _+_, _*_, _≤_, _<_};
 ghost use lib.ListN.{length, take, drop, getD};
 ghost use Rattle.calculus.specs.Limits.{CONNECTIVES};
 ghost use Rattle.calculus.specs.Syntax.{Binary, two, on-side, connectives};
@@ -21,6 +21,7 @@ pub struct Pair {
 }
 
 impl Pair {
+    // The width on a side.
     pub fn on(self, side: Side) -> u64
         ensures { λ r. ⌜ r ≡ sideOf self side ⌝ }
     {
@@ -38,7 +39,7 @@ pub struct Walk {
     pub end: usize,
 }
 
-// The widths of two formulas joined by the binary connective with the command b.
+// Two formulas joined by the binary connective whose command is b.
 pub fn join(b: u8, f: Pair, g: Pair) -> Pair
     requires { ⌜ (3 ≤ b) × (b ≤ 6) × Fit f g ⌝ }
     ensures { λ r. ⌜ ((o : Binary) → b ≡ code (CONNECTIVE (two o)) → r ≡ joined o f g) ⌝ }
@@ -63,7 +64,7 @@ pub fn join(b: u8, f: Pair, g: Pair) -> Pair
     }
 }
 
-// The formula at a position.
+// The formula at a position: its pair of widths, in one walk over its bytes.
 pub fn widths(q: &[u8], at: usize) -> Walk
     requires { ⌜ Well (now q) at × (connectives (formulaAt (now q) at) ≤ CONNECTIVES) ⌝ }
     ensures { λ r. ⌜ r ≡ walkOf (now (q .entry)) at ⌝ }
@@ -79,7 +80,7 @@ pub fn widths(q: &[u8], at: usize) -> Walk
     }
 }
 
-// The formula at a position, whose command there is the connective b: from its parts.
+// The formula at a position whose command is the connective b, from its parts. NOT exchanges the pair.
 pub fn part_widths(q: &[u8], b: u8, at: usize) -> Walk
     requires { ⌜ Well (now q) at × (connectives (formulaAt (now q) at) ≤ CONNECTIVES) ⌝ }
     requires { ⌜ (b ≡ getD (now q) at 0) × (2 ≤ b) × (b ≤ 6) ⌝ }
@@ -152,7 +153,7 @@ pub enum Answer {
     Of(u64, u64),
 }
 
-// The width of a question.
+// The width of a question. The right side starts two bytes behind the left side's formulas.
 pub fn width(q: &[u8]) -> Answer
     ensures reply { λ r. ⌜ widthOf r ≡ widthReply (now (q .entry)) ⌝ }
     ensures sized { λ r. ⌜ ((w n : ℕ) → r ≡ Answer.Of w n → Sized (now (q .entry)) w n) ⌝ }

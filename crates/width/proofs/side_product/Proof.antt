@@ -1,6 +1,5 @@
 -- `width::side_product` meets its contract: the formulas from the side's start, as many as its count says, are the side.
 -- Assumes nothing.
-use mathlib.Core.Path.{_≡_, _∙_}
 use Rattle.width.proofs.Answers.{SideRead, side-read}
 use Rattle.width.proofs.side_product.Statement.{statement}
 use Rattle.width.proofs.side_product.Tie as tie

@@ -4,7 +4,7 @@ use mathlib.Core.Path.{_≡_, sym, ap, _∙_}
 use Prim.Native.Nat.{_+_, _*_}
 use native.Mathlib.Omega.{arith}
 use borrow.Author.Needs.{needs}
-use Rattle.calculus.specs.declared.Side.the-variants.{Left, Right}
+use Rattle.calculus.specs.declared.Side.the-variants.{Right}
 use Rattle.calculus.specs.Bytes.{question, sideStart}
 use Rattle.calculus.specs.Reading.{accepted, reading}
 use Rattle.question.specs.Answers.{readingOf}
