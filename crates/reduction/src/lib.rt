@@ -3,7 +3,6 @@ use calculus::Side;
 use sequent::Placing;
 use sequent::Rule;
 use sequent::Running;
-
 ghost use mathlib.Core.Path.{_≡_};
 ghost use mathlib.Core.List.{map};
 ghost use Prim.Native.Nat.{ℕ, _+_, _≤_, _<_};
@@ -81,7 +80,7 @@ fn second_part(q: &[u8], p: usize) -> usize
 }
 
 // How the compound at p reduces on a side.
-pub fn reduction(q: &[u8], p: u8, side: Side) -> Reduction
+pub fn reduction_of(q: &[u8], p: u8, side: Side) -> Reduction
     requires { ⌜ (length (now q) ≤ LONGEST) × Stands (now q) p × IsCompound (formulaAt (now q) p) ⌝ }
     ensures { λ r. ⌜ Reduces (now (q .entry)) p side r ⌝ }
 {
@@ -97,10 +96,9 @@ pub fn reduction(q: &[u8], p: u8, side: Side) -> Reduction
 
 // How many parts a premise places.
 pub fn placed(p: Placing) -> usize
-    requires { ⌜ (p .f ≤ 2) × (p .g ≤ 2) ⌝ }
-    ensures { λ r. ⌜ (r ≡ size (premiseOf p)) × (r ≤ 2) ⌝ }
+    ensures { λ r. ⌜ (r ≡ size (premiseOf p)) × (r ≤ 4) ⌝ }
 {
-    one(p.f != 0) + one(p.g != 0)
+    one(p.f == 1) + one(p.g == 1) + (one(p.f == 2) + one(p.g == 2))
 }
 
 fn one(yes: bool) -> usize

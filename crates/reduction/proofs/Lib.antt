@@ -1,0 +1,3 @@
+-- The laws behind the functions' proofs. Assumes nothing.
+pub mod Compounds
+pub mod Reductions
