@@ -3,16 +3,17 @@ use mathlib.Core.Path.{_≡_}
 use mathlib.Core.Bool.{Bool, true, false}
 use mathlib.Core.List.{List, [], _∷_, _++_, map}
 use Prim.Native.Nat.{ℕ, suc, _+_, _≤_, _<_}
-use lib.ListN.{length, getD}
+use lib.ListN.{length, take, getD}
 use Rattle.calculus.specs.declared.Side.{Side}
 use Rattle.calculus.specs.declared.Side.the-variants.{Left, Right}
-use Rattle.calculus.specs.Syntax.{NOT, two, Formula, letter, neg, join, Compound, whole, Seq, Sequent}
+use Rattle.calculus.specs.Syntax.{other, on-side, NOT, two, Formula, letter, neg, join, Compound, whole, Seq, Sequent}
+use Rattle.calculus.specs.Bytes.{question}
 use Rattle.calculus.specs.Table.{Part, F, G, table, splice}
 use Rattle.calculus.specs.Tree.{First, missing, here, first}
 use Rattle.question.specs.Positions.{Well, formulaAt}
 use Rattle.sequent.specs.declared.Running.{Running}
 use Rattle.sequent.specs.declared.Placing.{Placing}
-use Rattle.sequent.specs.View.{view, formulasOf, Stands}
+use Rattle.sequent.specs.View.{view, formulasOf, Stands, Good}
 use Rattle.sequent.specs.Rule.{premiseOf, premisesOf, sided}
 use Rattle.reduction.specs.declared.Reduction.{Reduction}
 use Rattle.reduction.specs.declared.Place.{Place}
@@ -89,3 +90,11 @@ pub record Second (q : List ℕ) (p r : ℕ) : Type 0 where
 abbrev pub countOne : Bool → ℕ
 countOne true = 1
 countOne false = 0
+
+-- ---- loading a question
+
+-- a side holds its first n formulas, and the other side what it held
+pub record Loaded (q : List ℕ) (t : Side) (n : ℕ) (s r : Running) : Type 0 where
+  pub held : formulasOf q t r ≡ take n (on-side t (question q))
+  pub aside : view (other t) r ≡ view (other t) s
+  pub good : Good q r

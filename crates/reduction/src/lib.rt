@@ -4,16 +4,18 @@ use sequent::Placing;
 use sequent::Rule;
 use sequent::Running;
 ghost use mathlib.Core.Path.{_≡_};
-ghost use mathlib.Core.List.{map};
+ghost use mathlib.Core.List.{[], map};
 ghost use Prim.Native.Nat.{ℕ, _+_, _≤_, _<_};
 ghost use lib.ListN.{length, take};
 ghost use Rattle.calculus.specs.Fold.{Each};
-ghost use Rattle.calculus.specs.Limits.{ROOM, LONGEST};
-ghost use Rattle.calculus.specs.Syntax.{size};
+ghost use Rattle.calculus.specs.Limits.{ROOM, LONGEST, FORMULAS};
+ghost use Rattle.calculus.specs.Syntax.{other, on-side, size};
+ghost use Rattle.calculus.specs.Bytes.{question};
+ghost use Rattle.calculus.specs.Reading.{reading, accepted};
 ghost use Rattle.question.specs.Positions.{Well, formulaAt};
-ghost use Rattle.sequent.specs.View.{lane, view, Stands, Good};
+ghost use Rattle.sequent.specs.View.{lane, view, sequentOf, Stands, Good};
 ghost use Rattle.sequent.specs.Rule.{premiseOf};
-ghost use Rattle.reduction.specs.Reduction.{IsCompound, firstIn, Found, Reduces, Second, countOne};
+ghost use Rattle.reduction.specs.Reduction.{IsCompound, firstIn, Found, Reduces, Second, countOne, Loaded};
 
 // A place of a side, and the position of the formula there.
 pub enum Place {
@@ -105,4 +107,37 @@ fn one(yes: bool) -> usize
     ensures { λ r. ⌜ (r ≡ countOne yes) × (r ≤ 1) ⌝ }
 {
     if yes { 1 } else { 0 }
+}
+
+// The formulas of a side of an accepted question, at the end of that side.
+fn load(q: &[u8], s: Running, side: Side) -> Running
+    requires { ⌜ (reading (now q) ≡ accepted) × Good (now q) s × (view side s ≡ []) × (length (view (other side) s) ≤ FORMULAS) ⌝ }
+    ensures { λ r. ⌜ Loaded (now (q .entry)) side (length (on-side side (question (now (q .entry))))) s r ⌝ }
+{
+    let mut at = question::side_start(q, side);
+    let n = question::side_count(q, side, at);
+    let mut r = s;
+    let mut i = 0;
+    while i < n {
+        r = r.push(q, side, at as u8);
+        at = question::end_of(q, at);
+        i += 1;
+    }
+    r
+}
+
+// The running sequent of an accepted question.
+pub fn root(q: &[u8]) -> Running
+    requires { ⌜ reading (now q) ≡ accepted ⌝ }
+    ensures { λ r. ⌜ Good (now (q .entry)) r × (sequentOf (now (q .entry)) r ≡ question (now (q .entry))) ⌝ }
+{
+    let empty = Running {
+        items: [0u8; 80],
+        lefts: 0,
+        rights: 0,
+        leftmask: 0,
+        rightmask: 0,
+    };
+    let left = load(q, empty, Side::Left);
+    load(q, left, Side::Right)
 }

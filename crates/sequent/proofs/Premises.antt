@@ -26,7 +26,7 @@ use Rattle.question.proofs.Parts.{At, a-letter, a-compound, at-position, letter
 use Rattle.sequent.specs.declared.Running.{Running}
 use Rattle.sequent.specs.declared.Parts.{Parts}
 use Rattle.sequent.specs.declared.Placing.{Placing}
-use Rattle.sequent.specs.View.{lane, countOf, maskOf, view, places, formulasOf, Stands, Good, Changed, partsView, bitOf, Sorted, Compounds}
+use Rattle.sequent.specs.View.{lane, countOf, maskOf, view, places, formulasOf, Stands, Good, Changed, partsView, bitOf, Sorted, Compounds, Pushed}
 use Rattle.sequent.specs.Rule.{sideCode, keep, partsOn, placed}
 use Rattle.sequent.proofs.Lanes.{lane-length}
 use Rattle.sequent.proofs.Changes.{sides, splice-length}
@@ -223,3 +223,28 @@ module _ (q : List ℕ) (s : Running) (good : Good q s) (items : length (s .item
           masks = both (λ u. maskOf u r ≡ state (letters (formulasOf q u r))) t place-mask end-mask;
         },
       )
+
+-- ---- one formula more
+
+module _ (q : List ℕ) (s : Running) (good : Good q s) (items : length (s .items) ≡ ROOM) (p : ℕ) (h : Stands q p) (room : s .lefts + s .rights < ROOM)
+    (t : Side) (m : ℕ) (e : m ≡ bitOf (formulaAt q p)) (r : Running) (c : Changed t (view t s ++ (p ∷ [])) m s r) where
+  end-letters : maskOf t r ≡ state (letters (formulasOf q t r))
+  end-letters =
+      let xs = map (formulaAt q) (view t s) in
+      let new = formulaAt q p ∷ [] in
+      c .mask ∙ rw (good .masks t, e, state-fold xs, ← or-zero-r (bitOf (formulaAt q p))) (sym (fold-append OR bitOf xs new)) ∙ sym (state-fold (xs ++ new))
+      ∙ ap (λ (l : List Formula). state (letters l)) (sym (map-append (formulaAt q) (view t s) (p ∷ []))) ∙ ap (λ (l : List ℕ). state (letters (map (formulaAt q) l))) (sym (c .held))
+
+  pub pushed : Pushed q t p s r
+  pushed =
+      record {
+        held = c .held;
+        aside = c .aside;
+        good = record {
+          short = good .short;
+          room = omega (arith, sides t r, sides t s, c .counted, c .aside-counted, length-append (view t s) (p ∷ []), lane-length t (s .items), length-take (countOf t s) (lane t (s .items)));
+          stand = both (λ u. Each (Stands q) (view u r)) t (rw (c .held) (each-append (Stands q) (view t s) (p ∷ []) (good .stand t) (h, tt))) (rw (c .aside) (good .stand (other t)));
+          masks = both (λ u. maskOf u r ≡ state (letters (formulasOf q u r))) t end-letters
+              (c .aside-mask ∙ good .masks (other t) ∙ ap (λ (l : List ℕ). state (letters (map (formulaAt q) l))) (sym (c .aside)));
+        };
+      }

@@ -114,3 +114,9 @@ pub record Sorted (q xs : List ℕ) (p : Parts) : Type 0 where
 pub record Compounds (q : List ℕ) (t : Side) (at : ℕ) (s : Running) : Type 0 where
   pub inside : at < countOf t s
   pub compound : (x : Compound) × (formulaAt q (getD (view t s) at 0) ≡ whole x)
+
+-- one formula more at the end of a side
+pub record Pushed (q : List ℕ) (t : Side) (p : ℕ) (s r : Running) : Type 0 where
+  pub held : view t r ≡ view t s ++ (p ∷ [])
+  pub aside : view (other t) r ≡ view (other t) s
+  pub good : Good q r

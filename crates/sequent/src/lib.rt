@@ -10,7 +10,7 @@ ghost use Rattle.calculus.specs.Syntax.{Connective, other, size};
 ghost use Rattle.calculus.specs.Bytes.{CONNECTIVE, code};
 ghost use Rattle.calculus.specs.Table.{table, splice, premise};
 ghost use Rattle.question.specs.Positions.{Well, formulaAt};
-ghost use Rattle.sequent.specs.View.{slotOf, countOf, maskOf, view, settled, partsView, Stands, Opened, Shut, Changed, bitOf, Sorted, Good, Compounds, places};
+ghost use Rattle.sequent.specs.View.{slotOf, countOf, maskOf, view, settled, partsView, Stands, Opened, Shut, Changed, bitOf, Sorted, Good, Compounds, Pushed, places};
 ghost use Rattle.sequent.specs.Rule.{sideCode, partsOn, premisesOf, sided, placed};
 
 // Formulas by their positions in the question's bytes: the left side from the front of `items`, the right side from the
@@ -310,5 +310,24 @@ impl Running {
         let away = side.other();
         let moved = parts_on(q, away, p, f, g);
         self.replace(side, at, kept).append(away, moved)
+    }
+}
+
+impl Running {
+    // One formula more at the end of a side.
+    pub fn push(self, q: &[u8], side: Side, p: u8) -> Running
+        requires { ⌜ Good (now q) self × Stands (now q) p × (self .lefts + self .rights < ROOM) ⌝ }
+        ensures { λ r. ⌜ Pushed (now (q .entry)) side p self r ⌝ }
+    {
+        let mask = letter_bit(q, p);
+        self.append(
+            side,
+            Parts {
+                count: 1,
+                first: p,
+                second: p,
+                mask: mask,
+            },
+        )
     }
 }
