@@ -15,7 +15,7 @@ use Rattle.calculus.specs.declared.Verdict.{Verdict}
 use Rattle.calculus.specs.Fold.{Each}
 use Rattle.calculus.specs.Syntax.{Sequent, c}
 use Rattle.calculus.specs.Table.{premises}
-use Rattle.calculus.specs.Tree.{Step, closed, opened, full, reduced, step, Event, close, reduce, Tree, follow, chain, grow, tree, reductions, closings, oneMore, spend, outcome, verdict, Inner, isClosed, isOpen, isFull, isSpent, isDue, afford, inner, andThen, pass, act, runBy, run}
+use Rattle.calculus.specs.Tree.{Step, closed, opened, full, reduced, step, Event, close, reduce, Tree, follow, chain, grow, tree, reductions, closings, oneMore, spend, outcome, verdict, closingsBefore, Inner, isClosed, isOpen, isFull, isSpent, isDue, afford, inner, andThen, pass, act, runBy, run}
 use Rattle.calculus.proofs.Folds.{each}
 use Rattle.calculus.proofs.Sequents.{Smaller, smaller}
 use Rattle.calculus.proofs.Trees.{Right-step, right-step, tree-grows}
@@ -39,13 +39,6 @@ spend-spent b [] e h = absurd (omega arith)
 spend-spent b (close k ∷ es) e h = spend-spent b es e (omega arith)
 spend-spent zero (reduce s i k ∷ es) e h = (refl, refl)
 spend-spent (suc b) (reduce s i k ∷ es) e h = spend-spent b es e (omega arith)
-
--- the closings before the reduction number b + 1, counted by themselves
-abbrev pub closingsBefore : ℕ → List Event → ℕ
-closingsBefore b [] = 0
-closingsBefore b (close k ∷ es) = 1 + closingsBefore b es
-closingsBefore zero (reduce s i k ∷ es) = 0
-closingsBefore (suc b) (reduce s i k ∷ es) = closingsBefore b es
 
 pub spend-closings : (b : ℕ) (es : List Event) (e : Kind) → spend b es e .closings ≡ closingsBefore b es
 spend-closings b [] e = refl

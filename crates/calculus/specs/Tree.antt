@@ -161,6 +161,13 @@ spend (suc b) (reduce s i k ∷ es) e = spend b es e
 abbrev pub outcome : ℕ → Sequent → Outcome
 outcome b S = spend b (tree S .events) (tree S .end)
 
+-- the closings before the tree's reduced sequent number b + 1
+abbrev pub closingsBefore : ℕ → List Event → ℕ
+closingsBefore b [] = 0
+closingsBefore b (close k ∷ es) = 1 + closingsBefore b es
+closingsBefore zero (reduce s i k ∷ es) = 0
+closingsBefore (suc b) (reduce s i k ∷ es) = closingsBefore b es
+
 -- the verdict under a budget: the kind, "and beside it the two counts"
 abbrev pub verdict : ℕ → Sequent → Verdict
 verdict b S =

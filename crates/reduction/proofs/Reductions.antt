@@ -1,14 +1,15 @@
 -- A reduction of the running sequent is document 01's: its premises, and their sizes.
 -- Assumes nothing.
 use mathlib.Core.Path.{_≡_, refl, sym, ap, _∙_, fun-ext}
-use mathlib.Core.Bool.{Bool, true, false, _||_, or-true}
+use mathlib.Core.Bool.{Bool, true, false, _||_, or-false}
 use mathlib.Core.Option.{some}
 use mathlib.Core.List.{List, [], _∷_, _++_, map, map-append}
 use Prim.Native.Nat.{ℕ, zero, suc, _+_, _-_, _≤_, _<_}
+use native.Mathlib.Decide.{decLt}
 use native.Mathlib.Omega.{arith}
 use lib.Dec.{eqb, ltb}
 use lib.ListN.{length, take, drop, getD, getElem?, length-append, length-take, length-drop, length-map}
-use borrow.Author.Tests.{lt-ltb, le-ltb, eq-eqb, ne-eqb}
+use borrow.Author.Tests.{lt-ltb, le-ltb}
 use Rattle.calculus.specs.declared.Side.{Side}
 use Rattle.calculus.specs.declared.Side.the-variants.{Left, Right}
 use Rattle.calculus.specs.Fold.{fold, ANY, SUM, Each, choose}
@@ -69,14 +70,18 @@ premises-by t i x S rows e = go (table (x .connective) t) ∙ ap (map (λ P. ins
 abbrev pub premisesWith : Side → ℕ → Sequent → Compound → Rule → List Sequent
 premisesWith t i S x r = premiseBy t i S x (r .first) ∷ choose (eqb (r .premises) 2) (premiseBy t i S x (r .second) ∷ []) []
 
-pub premises-rule : (q : List ℕ) (p : ℕ) (t : Side) (r : Reduction) → Reduces q p t r → (i : ℕ) (S : Sequent)
-    → premises t i (compoundAt q p) S ≡ premisesWith t i S (compoundAt q p) (r .rule)
-premises-rule q p t r h i S = premises-by t i (compoundAt q p) S (premisesOf (r .rule)) (h .rows) ∙ go (eqb (r .rule .premises) 2)
+pub premises-with : (t : Side) (i : ℕ) (x : Compound) (S : Sequent) (r : Rule) → premisesOf r ≡ map sided (table (x .connective) t)
+    → premises t i x S ≡ premisesWith t i S x r
+premises-with t i x S r e = premises-by t i x S (premisesOf r) e ∙ go (eqb (r .premises) 2)
   where
-    go : (b : Bool) → map (λ P. insert t i S (mapSeq (part (compoundAt q p .f) (compoundAt q p .g)) P)) (premiseOf (r .rule .first) ∷ choose b (premiseOf (r .rule .second) ∷ []) [])
-        ≡ premiseBy t i S (compoundAt q p) (r .rule .first) ∷ choose b (premiseBy t i S (compoundAt q p) (r .rule .second) ∷ []) []
+    go : (b : Bool) → map (λ P. insert t i S (mapSeq (part (x .f) (x .g)) P)) (premiseOf (r .first) ∷ choose b (premiseOf (r .second) ∷ []) [])
+        ≡ premiseBy t i S x (r .first) ∷ choose b (premiseBy t i S x (r .second) ∷ []) []
     go true = refl
     go false = refl
+
+pub premises-rule : (q : List ℕ) (p : ℕ) (t : Side) (r : Reduction) → Reduces q p t r → (i : ℕ) (S : Sequent)
+    → premises t i (compoundAt q p) S ≡ premisesWith t i S (compoundAt q p) (r .rule)
+premises-rule q p t r h i S = premises-with t i (compoundAt q p) S (r .rule) (h .rows)
 
 -- ---- sizes
 
@@ -152,22 +157,28 @@ placed-size q s t i p f g x h =
 
 -- ---- FULL: "if a premise of the due reduction would hold more than 80 formulas"
 
-module _ (t : Side) (i : ℕ) (S : Sequent) (x : Compound) (r : Rule) (h : i < length (on-side t S)) where
-  pub full-first : ROOM + 1 < size S + size (premiseOf (r .first)) → fold ANY (λ P. ltb ROOM (size P)) (premisesWith t i S x r) ≡ true
-  full-first k = rw (lt-ltb ROOM (size (premiseBy t i S x (r .first))) (omega (arith, premise-size t i S x (r .first) h)))
+-- by the sizes of the placings, n formulas being held
+abbrev pub overfullOf : Rule → ℕ → Bool
+overfullOf r n = ltb (ROOM + 1) (n + size (premiseOf (r .first))) || choose (eqb (r .premises) 2) (ltb (ROOM + 1) (n + size (premiseOf (r .second)))) false
 
-  pub full-second : r .premises ≡ 2 → ROOM + 1 < size S + size (premiseOf (r .second)) → fold ANY (λ P. ltb ROOM (size P)) (premisesWith t i S x r) ≡ true
-  full-second e k =
-      rw (eq-eqb (r .premises) 2 e, lt-ltb ROOM (size (premiseBy t i S x (r .second))) (omega (arith, premise-size t i S x (r .second) h)), or-true)
+one-more : (a b : ℕ) → a + 1 ≡ b → ltb ROOM a ≡ ltb (ROOM + 1) b
+one-more a b e = go (decLt ROOM a)
+  where
+    go : Dec (ROOM < a) → ltb ROOM a ≡ ltb (ROOM + 1) b
+    go (yes h) = rw (lt-ltb ROOM a h, lt-ltb (ROOM + 1) b (omega arith))
+    go (no h) = rw (le-ltb ROOM a (omega arith), le-ltb (ROOM + 1) b (omega arith))
 
-  first-fits : size S + size (premiseOf (r .first)) ≤ ROOM + 1 → size (premiseBy t i S x (r .first)) ≤ ROOM
-  first-fits k = omega (arith, premise-size t i S x (r .first) h)
+pub overfull : (t : Side) (i : ℕ) (S : Sequent) (x : Compound) (r : Rule) → i < length (on-side t S)
+    → fold ANY (λ P. ltb ROOM (size P)) (premisesWith t i S x r) ≡ overfullOf r (size S)
+overfull t i S x r h = go (eqb (r .premises) 2)
+  where
+    first : ltb ROOM (size (premiseBy t i S x (r .first))) ≡ ltb (ROOM + 1) (size S + size (premiseOf (r .first)))
+    first = one-more (size (premiseBy t i S x (r .first))) (size S + size (premiseOf (r .first))) (premise-size t i S x (r .first) h)
 
-  pub not-full-one : (r .premises ≡ 2 → ⊥) → size S + size (premiseOf (r .first)) ≤ ROOM + 1
-      → fold ANY (λ P. ltb ROOM (size P)) (premisesWith t i S x r) ≡ false
-  not-full-one e k = rw (ne-eqb (r .premises) 2 e, le-ltb ROOM (size (premiseBy t i S x (r .first))) (first-fits k))
+    second : ltb ROOM (size (premiseBy t i S x (r .second))) ≡ ltb (ROOM + 1) (size S + size (premiseOf (r .second)))
+    second = one-more (size (premiseBy t i S x (r .second))) (size S + size (premiseOf (r .second))) (premise-size t i S x (r .second) h)
 
-  pub not-full-two : r .premises ≡ 2 → size S + size (premiseOf (r .first)) ≤ ROOM + 1 → size S + size (premiseOf (r .second)) ≤ ROOM + 1
-      → fold ANY (λ P. ltb ROOM (size P)) (premisesWith t i S x r) ≡ false
-  not-full-two e k l =
-      rw (eq-eqb (r .premises) 2 e, le-ltb ROOM (size (premiseBy t i S x (r .first))) (first-fits k), le-ltb ROOM (size (premiseBy t i S x (r .second))) (omega (arith, premise-size t i S x (r .second) h)))
+    go : (b : Bool) → fold ANY (λ P. ltb ROOM (size P)) (premiseBy t i S x (r .first) ∷ choose b (premiseBy t i S x (r .second) ∷ []) [])
+        ≡ (ltb (ROOM + 1) (size S + size (premiseOf (r .first))) || choose b (ltb (ROOM + 1) (size S + size (premiseOf (r .second)))) false)
+    go true = rw (first, second, or-false)
+    go false = rw (first)
