@@ -2,17 +2,21 @@
 use calculus::Kind;
 use calculus::Outcome;
 use calculus::Side;
+use calculus::Verdict;
+use question::Refusal;
 use reduction::Place;
 use sequent::Rule;
 use sequent::Running;
 
 ghost use mathlib.Core.Path.{_≡_};
 ghost use Prim.Native.Nat.{ℕ, _+_, _≤_, _<_};
+ghost use Rattle.calculus.specs.Limits;
 ghost use Rattle.calculus.specs.Limits.{CONNECTIVES};
 ghost use Rattle.calculus.specs.Syntax.{c};
-ghost use Rattle.calculus.specs.Tree.{outcome};
+ghost use Rattle.calculus.specs.Tree.{outcome, afford, due};
 ghost use Rattle.sequent.specs.View.{sequentOf, Good};
-ghost use Rattle.prover.specs.Inner.{Stepped};
+ghost use Rattle.reduction.specs.Reduction.{compoundAt, FoundAt, overfullOf};
+ghost use Rattle.prover.specs.Inner.{innerOf, Ready, Stepped};
 
 const ROOM: usize = 80;
 
@@ -28,9 +32,10 @@ pub enum Due {
     Reduce(Side, usize, u8),
 }
 
-// A premise of the rule would hold more than the room, n formulas being held now.
+// Whether a premise of the rule would hold more formulas than there is room for, n being held now.
 fn overfull(rule: Rule, n: usize) -> bool
-    requires { ⌜ n ≤ 80 ⌝ }
+    requires { ⌜ n ≤ Limits.ROOM ⌝ }
+    ensures { λ r. ⌜ r ≡ overfullOf rule n ⌝ }
 {
     if ROOM + 1 < n + reduction::placed(rule.first) {
         return true;
@@ -45,4 +50,41 @@ fn wide(p: u8) -> usize
     ensures { λ r. ⌜ r ≡ p ⌝ }
 {
     p as usize
+}
+
+// The tests at a sequent whose first compound is at a place of a side: FULL, SPENT, then the reduction.
+fn due_at(q: &[u8], s: Running, side: Side, at: usize, p: u8, left: u64) -> Due
+    requires { ⌜ Good (now q) s × FoundAt (now q) s side at p ⌝ }
+    ensures { λ r. ⌜ (innerOf (now (q .entry)) r ≡ afford left (due (sequentOf (now (q .entry)) s) side at (compoundAt (now (q .entry)) p))) × Ready (now (q .entry)) s left r ⌝ }
+{
+    let rule = sequent::rule_of(q[wide(p)], side);
+    if overfull(rule, s.lefts + s.rights) {
+        return Due::Full;
+    }
+    if left == 0 {
+        return Due::Spent;
+    }
+    Due::Reduce(side, at, p)
+}
+
+// The inner step: one sequent through the tests in their order, with the reductions left. Its answer says what is due and
+// does nothing, so that no run made from it goes on after SPENT.
+pub fn step(q: &[u8], s: Running, left: u64) -> Due
+    requires { ⌜ Good (now q) s ⌝ }
+    ensures { λ r. ⌜ Stepped (now (q .entry)) s left r ⌝ }
+{
+    let shared = s.leftmask & s.rightmask;
+    if shared != 0 {
+        return Due::Closed(u32::trailing_zeros(shared));
+    }
+    let place = reduction::first_compound(s, q);
+    match place {
+        Place::At(side, at, p) => due_at(q, s, side, at, p, left),
+        Place::Nowhere => Due::Open(s.leftmask),
+    }
+}
+
+pub enum Decision {
+    Refused(Refusal),
+    Decided(Verdict),
 }

@@ -24,7 +24,7 @@ use Rattle.sequent.specs.View.{view, places, formulasOf, sequentOf, Compounds, 
 use Rattle.sequent.specs.Rule.{sideCode, keep, partsOn, premiseOf, premisesOf, sided, placed}
 use Rattle.sequent.proofs.Premises.{ones, on-left, on-right, map-splice}
 use Rattle.reduction.specs.declared.Reduction.{Reduction}
-use Rattle.reduction.specs.Reduction.{compoundAt, mapSeq, part, insert, premiseBy, Reduces, FoundAt, countOne}
+use Rattle.reduction.specs.Reduction.{compoundAt, mapSeq, part, insert, premiseBy, Reduces, FoundAt, countOne, overfullOf}
 
 -- ---- counting parts
 
@@ -156,10 +156,6 @@ placed-size q s t i p f g x h =
     inside-formulas Right h = omega (arith, length-map (view Right s) (formulaAt q))
 
 -- ---- FULL: "if a premise of the due reduction would hold more than 80 formulas"
-
--- by the sizes of the placings, n formulas being held
-abbrev pub overfullOf : Rule → ℕ → Bool
-overfullOf r n = ltb (ROOM + 1) (n + size (premiseOf (r .first))) || choose (eqb (r .premises) 2) (ltb (ROOM + 1) (n + size (premiseOf (r .second)))) false
 
 one-more : (a b : ℕ) → a + 1 ≡ b → ltb ROOM a ≡ ltb (ROOM + 1) b
 one-more a b e = go (decLt ROOM a)

@@ -1,18 +1,22 @@
 -- The compound at a position, the first compound of a running sequent, and how a compound reduces.
 use mathlib.Core.Path.{_≡_}
-use mathlib.Core.Bool.{Bool, true, false}
+use mathlib.Core.Bool.{Bool, true, false, _||_}
 use mathlib.Core.List.{List, [], _∷_, _++_, map}
 use Prim.Native.Nat.{ℕ, suc, _+_, _≤_, _<_}
+use lib.Dec.{eqb, ltb}
 use lib.ListN.{length, take, getD}
 use Rattle.calculus.specs.declared.Side.{Side}
 use Rattle.calculus.specs.declared.Side.the-variants.{Left, Right}
-use Rattle.calculus.specs.Syntax.{other, on-side, NOT, two, Formula, letter, neg, join, Compound, whole, Seq, Sequent}
+use Rattle.calculus.specs.Fold.{choose}
+use Rattle.calculus.specs.Limits.{ROOM}
+use Rattle.calculus.specs.Syntax.{size, other, on-side, NOT, two, Formula, letter, neg, join, Compound, whole, Seq, Sequent}
 use Rattle.calculus.specs.Bytes.{question}
 use Rattle.calculus.specs.Table.{Part, F, G, table, splice}
 use Rattle.calculus.specs.Tree.{First, missing, here, first}
 use Rattle.question.specs.Positions.{Well, formulaAt}
 use Rattle.sequent.specs.declared.Running.{Running}
 use Rattle.sequent.specs.declared.Placing.{Placing}
+use Rattle.sequent.specs.declared.Rule.{Rule}
 use Rattle.sequent.specs.View.{view, formulasOf, Stands, Good}
 use Rattle.sequent.specs.Rule.{premiseOf, premisesOf, sided}
 use Rattle.reduction.specs.declared.Reduction.{Reduction}
@@ -98,3 +102,8 @@ pub record Loaded (q : List ℕ) (t : Side) (n : ℕ) (s r : Running) : Type 0 w
   pub held : formulasOf q t r ≡ take n (on-side t (question q))
   pub aside : view (other t) r ≡ view (other t) s
   pub good : Good q r
+
+-- whether a premise of a rule would hold more than there is room for, n formulas being held
+abbrev pub overfullOf : Rule → ℕ → Bool
+overfullOf r n =
+    ltb (ROOM + 1) (n + size (premiseOf (r .first))) || choose (eqb (r .premises) 2) (ltb (ROOM + 1) (n + size (premiseOf (r .second)))) false
