@@ -5,11 +5,13 @@ use mathlib.Core.List.{List}
 use Prim.Native.Nat.{ℕ, _<_}
 use lib.Dec.{ltb}
 use Rattle.calculus.specs.declared.Side.{Side}
+use Rattle.calculus.specs.declared.Kind.{Kind}
+use Rattle.calculus.specs.declared.Outcome.{Outcome}
 use Rattle.calculus.specs.Fold.{fold, ANY}
 use Rattle.calculus.specs.Limits.{ROOM}
 use Rattle.calculus.specs.Syntax.{size}
 use Rattle.calculus.specs.Table.{premises}
-use Rattle.calculus.specs.Tree.{Inner, isClosed, isOpen, isFull, isSpent, isDue}
+use Rattle.calculus.specs.Tree.{Inner, isClosed, isOpen, isFull, isSpent, isDue, inner}
 use Rattle.sequent.specs.declared.Running.{Running}
 use Rattle.sequent.specs.View.{sequentOf}
 use Rattle.reduction.specs.Reduction.{compoundAt, FoundAt}
@@ -38,5 +40,13 @@ Ready q s left Spent = Unit {0}
 Ready q s left (Reduce t i p) = ReadyAt q s left t i p
 
 pub record Stepped (q : List ℕ) (s : Running) (left : ℕ) (r : Due) : Type 0 where
-  pub inner : innerOf q r ≡ Rattle.calculus.specs.Tree.inner left (sequentOf q s)
+  pub inner : innerOf q r ≡ inner left (sequentOf q s)
   pub ready : Ready q s left r
+
+-- the reduction is due, and can be made
+pub record IsDue (q : List ℕ) (s : Running) (left : ℕ) (t : Side) (i p : ℕ) : Type 0 where
+  pub due : isDue t i (compoundAt q p) ≡ inner left (sequentOf q s)
+  pub ready : ReadyAt q s left t i p
+
+abbrev pub ended : Kind → ℕ → ℕ → Outcome
+ended k l n = record { kind = k; unspent = l; closings = n }

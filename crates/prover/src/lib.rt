@@ -3,6 +3,7 @@ use calculus::Kind;
 use calculus::Outcome;
 use calculus::Side;
 use calculus::Verdict;
+use question::Reading;
 use question::Refusal;
 use reduction::Place;
 use sequent::Rule;
@@ -13,10 +14,14 @@ ghost use Prim.Native.Nat.{ℕ, _+_, _≤_, _<_};
 ghost use Rattle.calculus.specs.Limits;
 ghost use Rattle.calculus.specs.Limits.{CONNECTIVES};
 ghost use Rattle.calculus.specs.Syntax.{c};
+ghost use Rattle.calculus.specs.Bytes.{question};
+ghost use Rattle.calculus.specs.Reading.{reading, accepted};
+ghost use Rattle.calculus.specs.Reply.{decideReply};
 ghost use Rattle.calculus.specs.Tree.{outcome, afford, due};
 ghost use Rattle.sequent.specs.View.{sequentOf, Good};
 ghost use Rattle.reduction.specs.Reduction.{compoundAt, FoundAt, overfullOf};
-ghost use Rattle.prover.specs.Inner.{innerOf, Ready, Stepped};
+ghost use Rattle.prover.specs.Answers.{decisionOf, Promised};
+ghost use Rattle.prover.specs.Inner.{innerOf, Ready, Stepped, IsDue, ended};
 
 const ROOM: usize = 80;
 
@@ -84,7 +89,82 @@ pub fn step(q: &[u8], s: Running, left: u64) -> Due
     }
 }
 
+fn ended(kind: Kind, left: u64, closings: u64) -> Outcome
+    ensures { λ r. ⌜ r ≡ ended kind left closings ⌝ }
+{
+    Outcome {
+        kind: kind,
+        unspent: left,
+        closings: closings,
+    }
+}
+
+// The run: reductions left go in and come out.
+pub fn run(q: &[u8], s: Running, left: u64) -> Outcome
+    requires { ⌜ Good (now q) s × (c (sequentOf (now q) s) ≤ CONNECTIVES) ⌝ }
+    ensures { λ r. ⌜ r ≡ outcome left (sequentOf (now (q .entry)) s) ⌝ }
+{
+    let due = step(q, s, left);
+    match due {
+        Due::Closed(_) => ended(Kind::Theorem, left, 1),
+        Due::Open(state) => ended(Kind::Refuted(state), left, 0),
+        Due::Full => ended(Kind::Full, left, 0),
+        Due::Spent => ended(Kind::Spent, left, 0),
+        Due::Reduce(side, at, p) => reduce(q, s, side, at, p, left),
+    }
+}
+
+// The reduction that is due: the first premise is finished, then the second is taken up.
+fn reduce(q: &[u8], s: Running, side: Side, at: usize, p: u8, left: u64) -> Outcome
+    requires { ⌜ Good (now q) s × (c (sequentOf (now q) s) ≤ CONNECTIVES) × IsDue (now q) s left side at p ⌝ }
+    ensures { λ r. ⌜ r ≡ outcome left (sequentOf (now (q .entry)) s) ⌝ }
+{
+    let how = reduction::reduction_of(q, p, side);
+    let rule = how.rule;
+    let o = run(q, s.premise(q, side, at, rule.first, how.f, how.g), left - 1);
+    if rule.premises != 2 {
+        return o;
+    }
+    let kind = o.kind;
+    match kind {
+        Kind::Theorem => {
+            let w = run(q, s.premise(q, side, at, rule.second, how.f, how.g), o.unspent);
+            let last = w.kind;
+            ended(last, w.unspent, o.closings + w.closings)
+        }
+        _ => o,
+    }
+}
+
+// The run of an accepted question.
+fn run_question(q: &[u8], budget: u64) -> Outcome
+    requires { ⌜ reading (now q) ≡ accepted ⌝ }
+    ensures { λ r. ⌜ r ≡ outcome budget (question (now (q .entry))) ⌝ }
+{
+    run(q, reduction::root(q), budget)
+}
+
 pub enum Decision {
     Refused(Refusal),
     Decided(Verdict),
+}
+
+// Decides a question within a budget of reductions.
+pub fn decide(q: &[u8], budget: u64) -> Decision
+    ensures reply { λ r. ⌜ decisionOf r ≡ decideReply (now (q .entry)) budget ⌝ }
+    ensures promise { λ r. ⌜ ((v : Verdict) → r ≡ Decision.Decided v → Promised (now (q .entry)) budget v) ⌝ }
+{
+    let reading = question::read(q);
+    match reading {
+        Reading::Accepted => {
+            let o = run_question(q, budget);
+            let kind = o.kind;
+            Decision::Decided(Verdict {
+                kind: kind,
+                reductions: budget - o.unspent,
+                closings: o.closings,
+            })
+        }
+        Reading::Refused(r) => Decision::Refused(r),
+    }
 }

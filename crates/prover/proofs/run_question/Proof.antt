@@ -1,0 +1,22 @@
+use borrow.Author.Needs.{needs}
+use Rattle.prover.proofs.run_question.Statement.{statement}
+use Rattle.prover.proofs.run_question.Tie as tie
+use Rattle.prover.proofs.run_question.Reads as reads
+use Rattle.prover.proofs.run_question.Lts as lts
+use Rattle.prover.proofs.run.Reads as run-reads
+use Rattle.reduction.proofs.root.Reads as root-reads
+
+-- src/lib.rt:144:12
+root-requires : tie.Need-root-requires
+root-requires c κs = search needs
+
+-- src/lib.rt:144:5
+run-requires : tie.Need-run-requires
+run-requires c κs = ?
+
+-- src/lib.rt:140:1
+returns : tie.Need-returns
+returns c = ?
+
+pub run-question-spec : {M : Type 1} → statement M
+run-question-spec = tie.close (tie.spec root-requires run-requires returns)
