@@ -2,3 +2,4 @@
 pub mod Closings
 pub mod Steps
 pub mod Runs
+pub mod Decisions

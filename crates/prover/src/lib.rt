@@ -8,7 +8,6 @@ use question::Refusal;
 use reduction::Place;
 use sequent::Rule;
 use sequent::Running;
-
 ghost use mathlib.Core.Path.{_≡_};
 ghost use Prim.Native.Nat.{ℕ, _+_, _≤_, _<_};
 ghost use Rattle.calculus.specs.Limits;
@@ -121,14 +120,22 @@ fn reduce(q: &[u8], s: Running, side: Side, at: usize, p: u8, left: u64) -> Outc
 {
     let how = reduction::reduction_of(q, p, side);
     let rule = how.rule;
-    let o = run(q, s.premise(q, side, at, rule.first, how.f, how.g), left - 1);
+    let o = run(
+        q,
+        s.premise(q, side, at, rule.first, how.f, how.g),
+        left - 1,
+    );
     if rule.premises != 2 {
         return o;
     }
     let kind = o.kind;
     match kind {
         Kind::Theorem => {
-            let w = run(q, s.premise(q, side, at, rule.second, how.f, how.g), o.unspent);
+            let w = run(
+                q,
+                s.premise(q, side, at, rule.second, how.f, how.g),
+                o.unspent,
+            );
             let last = w.kind;
             ended(last, w.unspent, o.closings + w.closings)
         }
