@@ -163,7 +163,7 @@ passes-true S ds e = derivation-true (passes-exactly S ds .0 e)
 
 -- ---- the run writes a derivation of each theorem
 
-writtenAll-append : (es fs : List Event) → writtenAll (es ++ fs) ≡ writtenAll es ++ writtenAll fs
+pub writtenAll-append : (es fs : List Event) → writtenAll (es ++ fs) ≡ writtenAll es ++ writtenAll fs
 writtenAll-append [] fs = refl
 writtenAll-append (e ∷ es) fs = rw (writtenAll-append es fs) (sym (append-assoc (written e) (writtenAll es) (writtenAll fs)))
 

@@ -51,7 +51,7 @@ no-bits (suc n) a h f =
     go (inl e) z = omega arith
     go (inr e) z = absurd (false≢true (sym (f 0) ∙ rw e))
 
-bit-below : (n j a : ℕ) → a < 2 ^ n → bit j a ≡ true → j < n
+pub bit-below : (n j a : ℕ) → a < 2 ^ n → bit j a ≡ true → j < n
 bit-below zero j a h e = let z : a ≡ 0 = omega arith in absurd (false≢true (sym (bit-zero j) ∙ rw z at e))
 bit-below (suc n) zero a h e = omega arith
 bit-below (suc n) (suc j) a h e = omega (arith, bit-below n j (a / 2) (omega (arith, pow-suc 2 n)) e)

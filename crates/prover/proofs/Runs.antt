@@ -73,7 +73,7 @@ stop Full o u n = refl
 
 module _ (q : List ℕ) (s : Running) (good : Good q s) (items : length (s .items) ≡ ROOM) (left : ℕ) (t : Side) (i p : ℕ) (ready : ReadyAt q s left t i p)
     (r : Reduction) (how : Reduces q p t r) where
-  premises-are : premises t i (compoundAt q p) (sequentOf q s) ≡ premisesWith t i (sequentOf q s) (compoundAt q p) (r .rule)
+  pub premises-are : premises t i (compoundAt q p) (sequentOf q s) ≡ premisesWith t i (sequentOf q s) (compoundAt q p) (r .rule)
   premises-are = premises-rule q p t r how i (sequentOf q s)
 
   held : length (view t s) ≡ countOf t s
@@ -134,6 +134,13 @@ module _ (q : List ℕ) (s : Running) (good : Good q s) (items : length (s .item
 
   pub second-stands : (n : Running) → places n ≡ premise t i (places s) (placed (r .rule .second) (r .f) (r .g)) → sequentOf q n ≡ premiseBy t i (sequentOf q s) (compoundAt q p) (r .rule .second)
   second-stands n e = premise-stands q s n t i (r .rule .second) (r .f) (r .g) (compoundAt q p) (how .first) (how .second) e
+
+  pub premises-one : (r .rule .premises ≡ 2 → ⊥) → premises t i (compoundAt q p) (sequentOf q s) ≡ premiseBy t i (sequentOf q s) (compoundAt q p) (r .rule .first) ∷ []
+  premises-one n = premises-are ∙ rw (ne-eqb (r .rule .premises) 2 n)
+
+  pub premises-two : r .rule .premises ≡ 2
+      → premises t i (compoundAt q p) (sequentOf q s) ≡ premiseBy t i (sequentOf q s) (compoundAt q p) (r .rule .first) ∷ premiseBy t i (sequentOf q s) (compoundAt q p) (r .rule .second) ∷ []
+  premises-two two = premises-are ∙ both two
 
   -- ---- what the run comes to
 

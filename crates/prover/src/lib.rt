@@ -144,7 +144,7 @@ fn reduce(q: &[u8], s: Running, side: Side, at: usize, p: u8, left: u64) -> Outc
 }
 
 // The run of an accepted question.
-fn run_question(q: &[u8], budget: u64) -> Outcome
+pub fn run_question(q: &[u8], budget: u64) -> Outcome
     requires { ⌜ reading (now q) ≡ accepted ⌝ }
     ensures { λ r. ⌜ r ≡ outcome budget (question (now (q .entry))) ⌝ }
 {

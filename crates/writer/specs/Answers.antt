@@ -1,0 +1,40 @@
+-- The answer of the call that writes a derivation, by document 01's numbers and values, and what the buffer holds.
+use mathlib.Core.Path.{_≡_}
+use mathlib.Core.List.{List, [], _∷_, _++_}
+use Prim.Native.Nat.{ℕ, _+_}
+use lib.ListN.{length, take, drop}
+use Rattle.calculus.specs.declared.Kind.{Kind}
+use Rattle.calculus.specs.declared.Kind.the-variants.{Theorem, Refuted, Spent, Full}
+use Rattle.calculus.specs.declared.Verdict.{Verdict}
+use Rattle.calculus.specs.Limits.{NOT-PROVED, NO-SPACE}
+use Rattle.calculus.specs.Bytes.{question}
+use Rattle.calculus.specs.Reading.{accepted, reading}
+use Rattle.calculus.specs.Truth.{Valid}
+use Rattle.calculus.specs.Derivation.{passes, checking}
+use Rattle.calculus.specs.Reply.{Reply, verdictReply}
+use Rattle.question.specs.Answers.{numberOf, placeOf}
+use Rattle.writer.specs.declared.Answer.{Answer}
+use Rattle.writer.specs.declared.Answer.the-variants.{Refused, NotProved, NoSpace, Written}
+
+-- 8, 9 and 10 by the verdict's kind; a theorem is not among them
+abbrev pub unproved : Kind → ℕ → ℕ → Reply
+unproved Theorem r k = verdictReply Theorem r k
+unproved (Refuted σ) r k = record { number = NOT-PROVED; values = σ ∷ r ∷ k ∷ [] }
+unproved Spent r k = verdictReply Spent r k
+unproved Full r k = verdictReply Full r k
+
+abbrev pub answerOf : Answer → Reply
+answerOf (Refused r) = record { number = numberOf r; values = placeOf r ∷ [] }
+answerOf (NotProved v) = unproved (v .kind) (v .reductions) (v .closings)
+answerOf (NoSpace n) = record { number = NO-SPACE; values = n ∷ [] }
+answerOf (Written n v) = record { number = 0; values = n ∷ v .reductions ∷ v .closings ∷ [] }
+
+-- bytes from a place on; the rest keeps its content
+abbrev pub laid : List ℕ → ℕ → List ℕ → List ℕ
+laid l at xs = take at l ++ (xs ++ drop (at + length xs) l)
+
+-- "our derivation of a theorem passes the checker"
+pub record Evidence (q : List ℕ) (bytes : List ℕ) : Type 0 where
+  pub read : reading q ≡ accepted
+  pub valid : Valid (question q)
+  pub checks : checking (question q) bytes ≡ passes
