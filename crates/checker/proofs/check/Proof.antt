@@ -1,68 +1,38 @@
+-- `checker::check` meets its contract: the walk from the question's own sequent decides.
+-- Assumes nothing.
+use mathlib.Core.Path.{_≡_, sym, ap, _∙_}
+use native.Mathlib.Omega.{arith}
 use borrow.Author.Needs.{needs}
+use Rattle.calculus.specs.Reading.{accepted, reading}
+use Rattle.question.specs.Answers.{readingOf}
+use Rattle.checker.proofs.Answers.{question-roomy, answer-refused, answer-faulty, answer-after, answer-passes}
 use Rattle.checker.proofs.check.Statement.{statement}
 use Rattle.checker.proofs.check.Tie as tie
-use Rattle.checker.proofs.check.Reads as reads
-use Rattle.checker.proofs.check.Lts as lts
-use Rattle.checker.proofs.walk.Reads as walk-reads
-use Rattle.question.proofs.read.Reads as read-reads
-use Rattle.reduction.proofs.root.Reads as root-reads
 
--- src/lib.rt:184:9
-read-requires : tie.Need-read-requires
-read-requires c κs = search needs
-
--- src/lib.rt:186:26
-enum-known-reading : tie.Need-enum-known-reading
-enum-known-reading c = search needs
-
--- src/lib.rt:188:46
-enum-told : tie.Need-enum-told
-enum-told c = search needs
-
--- src/lib.rt:188:46
-root-requires : tie.Need-root-requires
-root-requires c κs = ?
-
--- src/lib.rt:188:17
-walk-requires : tie.Need-walk-requires
-walk-requires c κs = ?
-
--- src/lib.rt:190:33
-enum-known-walked : tie.Need-enum-known-walked
-enum-known-walked c = search needs
-
--- src/lib.rt:191:28
-enum-known-walked-2 : tie.Need-enum-known-walked-2
-enum-known-walked-2 c = search needs
-
--- src/lib.rt:193:25
-returns : tie.Need-returns
-returns c = ?
-
--- src/lib.rt:180:1
-returns-2 : tie.Need-returns-2
-returns-2 c = ?
-
--- src/lib.rt:180:1
-returns-3 : tie.Need-returns-3
-returns-3 c = ?
-
--- src/lib.rt:180:1
-returns-4 : tie.Need-returns-4
-returns-4 c = ?
+accepted-now : (c : tie.After-enum-told) → reading (c .before .before .before .before .before .args .q .now) ≡ accepted
+accepted-now c = sym (c .before .before .read .ensures) ∙ ap readingOf (c .enum-told .given .1)
 
 pub check-spec : {M : Type 1} → statement M
 check-spec =
     tie.close
     (tie.spec
-    read-requires
-    enum-known-reading
-    enum-told
-    root-requires
-    walk-requires
-    enum-known-walked
-    enum-known-walked-2
-    returns
-    returns-2
-    returns-3
-    returns-4)
+    (λ c κs. search needs)
+    (λ c. search needs)
+    (λ c. search needs)
+    (λ c κs. accepted-now c)
+    (λ c κs. (c .root .ensures .0, question-roomy (c .before .before .before .before .before .before .args .q .now) (c .root .result) (accepted-now (c .before)) (c .root .ensures .1), omega arith))
+    (λ c. search needs)
+    (λ c. search needs)
+    (λ c.
+    let a = c .before .before .before .before .before .before .before .before .before .before .before .args in
+    let r = c .before .before .before .before .before .root in
+    answer-after (a .q .now) (a .derivation .now) (accepted-now (c .before .before .before .before .before .before)) (r .result) (r .ensures .1) (c .before .before .walked2 .given .0 .0) (rw (c .before .before .walked2 .given .1) at (c .before .before .before .before .walk .ensures)) (c .if1 .taken))
+    (λ c. let a = c .before .before .before .before .before .before .args in answer-refused (a .q .now) (a .derivation .now) (c .before .reading .given .0 .0) (rw (c .before .reading .given .1) at (c .before .before .before .read .ensures)))
+    (λ c.
+    let a = c .before .before .before .before .before .before .before .before .before .before .args in
+    let r = c .before .before .before .before .root in
+    answer-faulty (a .q .now) (a .derivation .now) (accepted-now (c .before .before .before .before .before)) (r .result) (r .ensures .1) (c .before .walked .given .0 .0) (rw (c .before .walked .given .1) at (c .before .before .before .walk .ensures)))
+    (λ c.
+    let a = c .before .before .before .before .before .before .before .before .before .before .before .args in
+    let r = c .before .before .before .before .before .root in
+    answer-passes (a .q .now) (a .derivation .now) (accepted-now (c .before .before .before .before .before .before)) (r .result) (r .ensures .1) (c .before .before .walked2 .given .0 .0) (rw (c .before .before .walked2 .given .1) at (c .before .before .before .before .walk .ensures)) (c .if1 .left)))
