@@ -4,17 +4,17 @@ use mathlib.Core.Path.{_≡_, refl, sym, ap, _∙_}
 use mathlib.Core.Bool.{Bool, true, false, _&&_}
 use mathlib.Core.Option.{Option, none, some}
 use mathlib.Core.List.{List, [], _∷_}
-use Prim.Native.Nat.{ℕ, zero, suc, _+_, _≤_, _<_}
+use Prim.Native.Nat.{ℕ, zero, suc, _≤_, _<_}
 use native.Mathlib.Omega.{arith}
 use lib.Dec.{eqb}
 use lib.ListN.{length, getD, getElem?, length-map}
 use lib.Seq.{getD-take}
-use borrow.Author.Tests.{eq-eqb, ne-eqb}
+use borrow.Author.Tests.{ne-eqb}
 use Rattle.calculus.specs.declared.Side.{Side}
 use Rattle.calculus.specs.declared.Side.the-variants.{Left, Right}
 use Rattle.calculus.specs.Fold.{choose}
-use Rattle.calculus.specs.Limits.{ROOM, NO-FORMULA, OTHER-CONNECTIVE, NOT-CLOSED}
-use Rattle.calculus.specs.Syntax.{Connective, NOT, two, Formula, Compound, compound, whole, Sequent, on-side}
+use Rattle.calculus.specs.Limits.{ROOM, OTHER-CONNECTIVE, NOT-CLOSED}
+use Rattle.calculus.specs.Syntax.{Connective, NOT, two, Formula, Compound, compound, whole, on-side}
 use Rattle.calculus.specs.Bytes.{CONNECTIVE, code}
 use Rattle.calculus.specs.Truth.{bit}
 use Rattle.calculus.specs.Tree.{letters, among}
@@ -23,21 +23,20 @@ use Rattle.calculus.proofs.Spelling.{code-injective}
 use Rattle.calculus.proofs.Trees.{bit-state}
 use Rattle.calculus.proofs.Derivations.{named-whole}
 use Rattle.question.specs.Positions.{formulaAt}
-use Rattle.question.proofs.Parts.{At, a-letter, a-compound, at-position, PartsAt}
+use Rattle.question.proofs.Parts.{At, a-letter, a-compound, at-position}
 use Rattle.question.proofs.Readers.{connective-range}
 use Rattle.sequent.specs.declared.Running.{Running}
 use Rattle.sequent.specs.View.{lane, slotOf, countOf, view, formulasOf, sequentOf, Stands, Good}
 use Rattle.sequent.proofs.Changes.{sides}
 use Rattle.sequent.proofs.Lanes.{slot-get}
 use Rattle.sequent.proofs.Premises.{element}
-use Rattle.reduction.specs.Reduction.{compoundAt, firstIn, IsCompound}
+use Rattle.reduction.specs.Reduction.{compoundAt, firstIn}
 use Rattle.reduction.proofs.Compounds.{held, each-at, not-letter, compound-parts}
-use Rattle.checker.specs.declared.Order.{Order}
 use Rattle.checker.specs.declared.Order.the-variants.{Close, Reduce as Reduction-of, Unknown}
 use Rattle.checker.specs.declared.Fault.the-variants.{NoFormula, OtherConnective, NotClosed, UnknownCommand}
 use Rattle.checker.specs.declared.Move.{Move}
 use Rattle.checker.specs.declared.Move.the-variants.{Stop, Closed, Reduce}
-use Rattle.checker.specs.Walks.{orderOf, positionAt, Compounded, Moves}
+use Rattle.checker.specs.Walks.{orderOf, positionAt, Moves}
 
 -- ---- a formula's place
 

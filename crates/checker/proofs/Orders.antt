@@ -1,7 +1,7 @@
 -- The command of a byte, and the letters of a mask.
 -- Assumes nothing.
-use mathlib.Core.Path.{_≡_, refl, sym, ap, _∙_}
-use mathlib.Core.Bool.{Bool, false}
+use mathlib.Core.Path.{_≡_, refl, sym, _∙_}
+use mathlib.Core.Bool.{false}
 use mathlib.Core.Option.{Option, none, some}
 use Prim.Native.Nat.{ℕ, zero, suc, _+_, _-_, _/_, _%_, _^_, _≤_, _<_}
 use native.Mathlib.Nat.{div-one, div-div-eq-div-mul, div-eq-of-lt, pow-succ'}
@@ -13,7 +13,7 @@ use Rattle.calculus.specs.declared.Side.the-variants.{Left, Right}
 use Rattle.calculus.specs.Limits.{LETTERS}
 use Rattle.calculus.specs.Bytes.{CONNECTIVE, code}
 use Rattle.calculus.specs.Truth.{bit}
-use Rattle.calculus.specs.Derivation.{Order as Command, CLOSE, REDUCE, orderCode, order}
+use Rattle.calculus.specs.Derivation.{Order as Command, CLOSE, REDUCE, order}
 use Rattle.calculus.proofs.Spelling.{command-byte}
 use Rattle.calculus.proofs.Derivations.{order-code, order-byte}
 use Rattle.question.proofs.Readers.{connects, connective-range}

@@ -1,37 +1,33 @@
 -- The walk over a derivation: one command, then the premises; and what a premise needs.
 -- Assumes nothing.
 use mathlib.Core.Path.{_≡_, refl, sym, ap, _∙_, subst}
-use mathlib.Core.Bool.{Bool, true, false}
 use mathlib.Core.Option.{some}
 use mathlib.Core.List.{List, [], _∷_, _++_}
-use Prim.Native.Nat.{ℕ, zero, suc, _+_, _-_, _≤_, _<_}
+use Prim.Native.Nat.{ℕ, suc, _+_, _-_, _≤_, _<_}
 use native.Mathlib.Omega.{arith}
-use lib.Dec.{eqb}
 use lib.ListN.{length, drop, getD, length-take, length-drop}
 use lib.Seq.{drop-cons}
 use borrow.Author.Tests.{eq-eqb, ne-eqb}
 use Rattle.calculus.specs.declared.Side.{Side}
-use Rattle.calculus.specs.Fold.{SUM, Each, choose}
+use Rattle.calculus.specs.Fold.{Each}
 use Rattle.calculus.specs.Limits.{ROOM, CUT-SHORT}
-use Rattle.calculus.specs.Syntax.{Formula, Compound, whole, Sequent, over, c, size}
+use Rattle.calculus.specs.Syntax.{Formula, Sequent, c, size}
 use Rattle.calculus.specs.Table.{premise, premises}
 use Rattle.calculus.specs.Derivation.{Move as Result, fault, waiting, obey, order, faulty, proceed, check}
 use Rattle.calculus.proofs.Sequents.{Due, weight-size, Smaller, smaller}
-use Rattle.question.specs.Positions.{formulaAt}
 use Rattle.sequent.specs.declared.Running.{Running}
 use Rattle.sequent.specs.declared.Placing.{Placing}
-use Rattle.sequent.specs.View.{lane, countOf, view, places, sequentOf, Compounds, Good}
+use Rattle.sequent.specs.View.{lane, countOf, places, sequentOf, Compounds}
 use Rattle.sequent.specs.Rule.{placed}
 use Rattle.reduction.specs.declared.Reduction.{Reduction}
 use Rattle.reduction.specs.Reduction.{compoundAt, premiseBy, Reduces}
 use Rattle.reduction.proofs.Reductions.{premisesWith, premises-rule, premise-stands, placed-size}
 use Rattle.checker.specs.declared.Fault.{Fault}
 use Rattle.checker.specs.declared.Fault.the-variants.{CutShort}
-use Rattle.checker.specs.declared.Move.the-variants.{Stop, Closed, Reduce}
 use Rattle.checker.specs.declared.Walked.{Walked}
 use Rattle.checker.specs.declared.Walked.the-variants.{To, Stopped}
 use Rattle.checker.specs.Answers.{faultNumber, faultPlace}
-use Rattle.checker.specs.Walks.{positionAt, Compounded, premisesAt, Moves, Reducing, Roomy, Walks}
+use Rattle.checker.specs.Walks.{positionAt, Compounded, premisesAt, Reducing, Roomy, Walks}
 use Rattle.checker.proofs.Commands.{there}
 
 -- ---- one command

@@ -1,5 +1,5 @@
 -- Document 01's number and values of each answer of the checker.
-use mathlib.Core.List.{List, [], _∷_}
+use mathlib.Core.List.{[], _∷_}
 use Prim.Native.Nat.{ℕ}
 use Rattle.calculus.specs.Limits.{CUT-SHORT, UNKNOWN-COMMAND, NO-FORMULA, OTHER-CONNECTIVE, NOT-CLOSED, BYTES-AFTER}
 use Rattle.calculus.specs.Reply.{Reply}

@@ -1,7 +1,7 @@
 -- The checker's steps, each by document 01's definitions.
 use mathlib.Core.Path.{_≡_}
 use mathlib.Core.Option.{Option, none, some}
-use mathlib.Core.List.{List, [], _∷_, _++_}
+use mathlib.Core.List.{List, [], _++_}
 use Prim.Native.Nat.{ℕ, _+_, _≤_, _<_}
 use lib.ListN.{length, drop, getD}
 use Rattle.calculus.specs.declared.Side.{Side}
@@ -12,7 +12,7 @@ use Rattle.calculus.specs.Table.{premises}
 use Rattle.calculus.specs.Derivation.{Order as Command, CLOSE, REDUCE, Move as Result, fault, waiting, faulty, check}
 use Rattle.question.specs.Positions.{formulaAt}
 use Rattle.sequent.specs.declared.Running.{Running}
-use Rattle.sequent.specs.View.{view, sequentOf, Stands, Good}
+use Rattle.sequent.specs.View.{view, sequentOf, Stands}
 use Rattle.reduction.specs.declared.Reduction.{Reduction}
 use Rattle.reduction.specs.Reduction.{compoundAt, IsCompound, Reduces}
 use Rattle.checker.specs.Answers.{faultNumber, faultPlace}

@@ -8,7 +8,7 @@ ghost use mathlib.Core.Path.{_≡_};
 ghost use mathlib.Core.Bool.{_&&_};
 ghost use mathlib.Core.Option.{some};
 ghost use mathlib.Core.List.{[], _∷_};
-ghost use Prim.Native.Nat.{ℕ, _+_, _≤_, _<_};
+ghost use Prim.Native.Nat.{_+_, _≤_, _<_};
 ghost use lib.ListN.{length};
 ghost use Rattle.calculus.specs.Syntax.{Connective};
 ghost use Rattle.calculus.specs.Bytes.{CONNECTIVE, code, question};
@@ -37,21 +37,21 @@ pub enum Answer {
 }
 
 // A command: close, or reduce a connective, given by its own command, on a side.
-pub enum Order {
+enum Order {
     Close,
     Reduce(Side, u8),
     Unknown,
 }
 
 // What a command says of the sequent that waits: at fault, closed, or a formula to reduce, by its side and position.
-pub enum Move {
+enum Move {
     Stop(Fault),
     Closed,
     Reduce(Side, u8),
 }
 
 // Where the derivation of a sequent ends, or its first fault.
-pub enum Walked {
+enum Walked {
     To(usize),
     Stopped(Fault),
 }
@@ -136,7 +136,8 @@ fn walk(q: &[u8], d: &[u8], s: Running, at: usize) -> Walked
     if d.len() - at < 2 {
         return Walked::Stopped(Fault::CutShort(at));
     }
-    let x = d[at + 1];
+    let operand = at + 1;
+    let x = d[operand];
     let next = obey(q, s, d[at], x, at);
     match next {
         Move::Stop(f) => Walked::Stopped(f),

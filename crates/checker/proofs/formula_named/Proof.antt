@@ -1,7 +1,7 @@
 -- `checker::formula_named` meets its contract.
 -- Assumes nothing.
-use mathlib.Core.Path.{_≡_, sym, ap, _∙_}
-use Prim.Native.Nat.{ℕ, _<_}
+use mathlib.Core.Path.{_≡_, sym, _∙_}
+use Prim.Native.Nat.{_<_}
 use native.Mathlib.Omega.{arith}
 use lib.ListN.{length, getD}
 use borrow.Author.Needs.{needs}
@@ -12,11 +12,6 @@ use Rattle.checker.specs.Walks.{positionAt}
 use Rattle.checker.proofs.Commands.{in-room, position, stands, no-formula, other-connective, reduces}
 use Rattle.checker.proofs.formula_named.Statement.{statement}
 use Rattle.checker.proofs.formula_named.Tie as tie
-use Rattle.checker.proofs.formula_named.Reads as reads
-use Rattle.checker.proofs.formula_named.Lts as lts
-use Rattle.checker.proofs.wide.Reads as wide-reads
-use Rattle.sequent.proofs.Running.count.Reads as count-reads
-use Rattle.sequent.proofs.slot.Reads as slot-reads
 
 room : (c : tie.Start) → length (c .args .t2 .items) ≡ ROOM
 room c = search needs

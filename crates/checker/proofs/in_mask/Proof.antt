@@ -1,7 +1,6 @@
 -- `checker::in_mask` meets its contract.
 -- Assumes nothing.
 use mathlib.Core.Path.{sym}
-use native.Mathlib.Omega.{arith}
 use borrow.Author.Needs.{needs}
 use Rattle.checker.proofs.Orders.{bit-shift, bit-high}
 use Rattle.checker.proofs.in_mask.Statement.{statement}

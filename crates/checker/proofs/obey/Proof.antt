@@ -1,15 +1,10 @@
 -- `checker::obey` meets its contract.
 -- Assumes nothing.
-use mathlib.Core.Path.{_≡_, sym, ap, _∙_}
+use mathlib.Core.Path.{sym, _∙_}
 use borrow.Author.Needs.{needs}
 use Rattle.checker.proofs.Commands.{closed, not-closed, unknown, reduction}
 use Rattle.checker.proofs.obey.Statement.{statement}
 use Rattle.checker.proofs.obey.Tie as tie
-use Rattle.checker.proofs.obey.Reads as reads
-use Rattle.checker.proofs.obey.Lts as lts
-use Rattle.checker.proofs.closes.Reads as closes-reads
-use Rattle.checker.proofs.formula_named.Reads as formula-named-reads
-use Rattle.checker.proofs.order_of.Reads as order-of-reads
 
 pub obey-spec : {M : Type 1} → statement M
 obey-spec =

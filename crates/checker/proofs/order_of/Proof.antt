@@ -6,8 +6,6 @@ use borrow.Author.Needs.{needs}
 use Rattle.checker.proofs.Orders.{order-close, order-left, order-right, order-other}
 use Rattle.checker.proofs.order_of.Statement.{statement}
 use Rattle.checker.proofs.order_of.Tie as tie
-use Rattle.checker.proofs.order_of.Reads as reads
-use Rattle.checker.proofs.order_of.Lts as lts
 
 pub order-of-spec : {M : Type 1} → statement M
 order-of-spec =
