@@ -1,6 +1,7 @@
 -- What the checker answers: document 01's reply, and what it says of the question.
 -- Assumes nothing.
 use mathlib.Core.Path.{_≡_, refl, sym, ap, _∙_, subst}
+use mathlib.Core.Logic.{_↔_}
 use mathlib.Core.List.{List, [], _∷_}
 use Prim.Native.Nat.{ℕ, _≤_, _<_}
 use native.Mathlib.Omega.{arith}
@@ -10,9 +11,9 @@ use Rattle.calculus.specs.Syntax.{Sequent, c, size}
 use Rattle.calculus.specs.Bytes.{question}
 use Rattle.calculus.specs.Truth.{Valid}
 use Rattle.calculus.specs.Reading.{Reading, accepted, refused, reading}
-use Rattle.calculus.specs.Derivation.{Checked, passes, faulty, check, checking}
+use Rattle.calculus.specs.Derivation.{Derivation, Checked, passes, faulty, check, checking}
 use Rattle.calculus.specs.Reply.{Reply, ifRead, checkedReply, checkReply}
-use Rattle.calculus.proofs.Derivations.{passes-true}
+use Rattle.calculus.proofs.Derivations.{passes-true, passes-exactly}
 use Rattle.calculus.proofs.Readings.{accepted-question, within-room}
 use Rattle.question.specs.declared.Refusal.{Refusal}
 use Rattle.question.specs.Answers.{numberOf, placeOf}
@@ -30,20 +31,32 @@ use Rattle.checker.specs.Walks.{Roomy, Walks}
 pub question-roomy : (q : List ℕ) (s : Running) → reading q ≡ accepted → sequentOf q s ≡ question q → Roomy (sequentOf q s)
 question-roomy q s e h = omega (arith, within-room (question q) (accepted-question q e .0), ap c h, ap size h)
 
--- what passes is true in every state, whoever wrote it
-sound : (q d : List ℕ) → checkOf Passes ≡ checkReply q d → (reading q ≡ accepted) × Valid (question q)
-sound q d e = go (reading q) refl (checking (question q) d) refl e
+-- the reply that passes
+pass-reply : (q d : List ℕ) → checkOf Passes ≡ checkReply q d → (reading q ≡ accepted) × (checking (question q) d ≡ passes)
+pass-reply q d e = go (reading q) refl (checking (question q) d) refl e
   where
-    go : (r : Reading) → reading q ≡ r → (k : Checked) → checking (question q) d ≡ k → checkOf Passes ≡ ifRead r (checkedReply k) → (reading q ≡ accepted) × Valid (question q)
-    go accepted h passes j i = (h, passes-true (question q) d j)
+    go : (r : Reading) → reading q ≡ r → (k : Checked) → checking (question q) d ≡ k → checkOf Passes ≡ ifRead r (checkedReply k)
+        → (reading q ≡ accepted) × (checking (question q) d ≡ passes)
+    go accepted h passes j i = (h, j)
     go accepted h (faulty n at) j i = absurd (omega (arith, ap (λ (a : Reply). length (a .values)) i))
     go (refused n at) h k j i = absurd (omega (arith, ap (λ (a : Reply). length (a .values)) i))
 
+is-passes : (a : Answer) → checkOf a ≡ checkOf Passes → a ≡ Passes
+is-passes (Refused r) e = absurd (omega (arith, ap (λ (a : Reply). length (a .values)) e))
+is-passes (Faulty f) e = absurd (omega (arith, ap (λ (a : Reply). length (a .values)) e))
+is-passes Passes e = refl
+
+-- the reply; what passes is true in every state, whoever wrote it; and the derivations pass, and nothing else
 abbrev pub Answered : List ℕ → List ℕ → Answer → Type 0
-Answered q d a = (checkOf a ≡ checkReply q d) × (a ≡ Passes → (reading q ≡ accepted) × Valid (question q))
+Answered q d a =
+    (checkOf a ≡ checkReply q d)
+    × ((a ≡ Passes → (reading q ≡ accepted) × Valid (question q)) × ((a ≡ Passes) ↔ ((reading q ≡ accepted) × Derivation (question q) d)))
 
 answered : (q d : List ℕ) (a : Answer) → checkOf a ≡ checkReply q d → Answered q d a
-answered q d a e = (e, λ p. sound q d (ap checkOf (sym p) ∙ e))
+answered q d a e =
+    let k = passes-exactly (question q) d in
+    let f : a ≡ Passes → (reading q ≡ accepted) × (checking (question q) d ≡ passes) = λ p. pass-reply q d (ap checkOf (sym p) ∙ e) in
+    (e, (λ p. (f p .0, passes-true (question q) d (f p .1)), (λ p. (f p .0, k .0 (f p .1)), λ h. is-passes a (e ∙ rw (h .0, k .1 (h .1))))))
 
 pub answer-refused : (q d : List ℕ) (r : Refusal) → refused (numberOf r) (placeOf r) ≡ reading q → Answered q d (Refused r)
 answer-refused q d r e = answered q d (Refused r) (ap (λ (x : Reading). ifRead x (checkedReply (checking (question q) d))) e)

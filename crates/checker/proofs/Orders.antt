@@ -1,6 +1,6 @@
 -- The command of a byte, and the letters of a mask.
 -- Assumes nothing.
-use mathlib.Core.Path.{_≡_, refl, sym, _∙_}
+use mathlib.Core.Path.{_≡_, refl, sym, ap, _∙_}
 use mathlib.Core.Bool.{false}
 use mathlib.Core.Option.{Option, none, some}
 use Prim.Native.Nat.{ℕ, zero, suc, _+_, _-_, _/_, _%_, _^_, _≤_, _<_}
@@ -11,9 +11,10 @@ use lib.Pow.{pow-mono}
 use Rattle.calculus.specs.declared.Side.{Side}
 use Rattle.calculus.specs.declared.Side.the-variants.{Left, Right}
 use Rattle.calculus.specs.Limits.{LETTERS}
+use Rattle.calculus.specs.Syntax.{Connective}
 use Rattle.calculus.specs.Bytes.{CONNECTIVE, code}
 use Rattle.calculus.specs.Truth.{bit}
-use Rattle.calculus.specs.Derivation.{Order as Command, CLOSE, REDUCE, order}
+use Rattle.calculus.specs.Derivation.{Order as Command, CLOSE, REDUCE, orderCode, order}
 use Rattle.calculus.proofs.Spelling.{command-byte}
 use Rattle.calculus.proofs.Derivations.{order-code, order-byte}
 use Rattle.question.proofs.Readers.{connects, connective-range}
@@ -23,21 +24,14 @@ use Rattle.checker.specs.Walks.{orderOf}
 pub order-close : (b : ℕ) → b ≡ 0x41 → orderOf (order b) ≡ Close
 order-close b e = rw e
 
--- the connective k - 2 steps behind NOT, on a side whose commands start at n
-order-reduce : (t : Side) (b n : ℕ) → ((k : ℕ) → 2 ≤ k → k ≤ 6 → b ≡ n + k → orderOf (order b) ≡ Reduce t k) → n + 2 ≤ b → b ≤ n + 6 → orderOf (order b) ≡ Reduce t (b - n)
-order-reduce t b n f h k = f (b - n) (omega arith) (omega arith) (omega arith)
-
-pub order-left : (b : ℕ) → 0x52 ≤ b → b ≤ 0x56 → orderOf (order b) ≡ Reduce Left (b - 0x50)
-order-left b = order-reduce Left b 0x50 (λ k h l e.
-    let j = connects k h l in
-    let i : code (CONNECTIVE (j .connective)) ≡ k = command-byte k _ (j .named) in
-    rw (e, ← i, order-code (REDUCE Left (j .connective))))
-
-pub order-right : (b : ℕ) → 0x62 ≤ b → b ≤ 0x66 → orderOf (order b) ≡ Reduce Right (b - 0x60)
-order-right b = order-reduce Right b 0x60 (λ k h l e.
-    let j = connects k h l in
-    let i : code (CONNECTIVE (j .connective)) ≡ k = command-byte k _ (j .named) in
-    rw (e, ← i, order-code (REDUCE Right (j .connective))))
+-- the commands of a side start at n
+pub order-reduce : (t : Side) (b n : ℕ) → ((k : Connective) → orderCode (REDUCE t k) ≡ n + code (CONNECTIVE k)) → n + 2 ≤ b → b ≤ n + 6
+    → orderOf (order b) ≡ Reduce t (b - n)
+order-reduce t b n f h l =
+    let j = connects (b - n) (omega arith) (omega arith) in
+    let i : code (CONNECTIVE (j .connective)) ≡ b - n = command-byte (b - n) _ (j .named) in
+    let e : b ≡ orderCode (REDUCE t (j .connective)) = omega (arith, f (j .connective)) in
+    ap (λ (x : ℕ). orderOf (order x)) e ∙ ap orderOf (order-code (REDUCE t (j .connective))) ∙ ap (Reduce t) i
 
 pub order-other : (b : ℕ) → (b ≡ 0x41 → ⊥) → (0x52 ≤ b → b ≤ 0x56 → ⊥) → (0x62 ≤ b → b ≤ 0x66 → ⊥) → orderOf (order b) ≡ Unknown
 order-other b h k l = go (order b) refl

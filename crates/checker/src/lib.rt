@@ -5,16 +5,17 @@ use question::Refusal;
 use reduction::Reduction;
 use sequent::Running;
 ghost use mathlib.Core.Path.{_≡_};
+ghost use mathlib.Core.Logic.{_↔_};
 ghost use mathlib.Core.Bool.{_&&_};
 ghost use mathlib.Core.Option.{some};
 ghost use mathlib.Core.List.{[], _∷_};
-ghost use Prim.Native.Nat.{_+_, _≤_, _<_};
+ghost use Prim.Native.Nat.{_≤_};
 ghost use lib.ListN.{length};
 ghost use Rattle.calculus.specs.Syntax.{Connective};
 ghost use Rattle.calculus.specs.Bytes.{CONNECTIVE, code, question};
 ghost use Rattle.calculus.specs.Truth.{bit, Valid};
 ghost use Rattle.calculus.specs.Reading.{accepted, reading};
-ghost use Rattle.calculus.specs.Derivation.{REDUCE, order, obey};
+ghost use Rattle.calculus.specs.Derivation.{REDUCE, order, obey, Derivation};
 ghost use Rattle.calculus.specs.Reply.{checkReply};
 ghost use Rattle.sequent.specs.View.{Good, sequentOf};
 ghost use Rattle.checker.specs.Answers.{checkOf};
@@ -181,6 +182,7 @@ fn walk_premises(
 pub fn check(q: &[u8], derivation: &[u8]) -> Answer
     ensures reply { λ r. ⌜ checkOf r ≡ checkReply (now (q .entry)) (now (derivation .entry)) ⌝ }
     ensures sound { λ r. ⌜ (r ≡ Answer.Passes → (reading (now (q .entry)) ≡ accepted) × Valid (question (now (q .entry)))) ⌝ }
+    ensures exactly { λ r. ⌜ (r ≡ Answer.Passes) ↔ ((reading (now (q .entry)) ≡ accepted) × Derivation (question (now (q .entry))) (now (derivation .entry))) ⌝ }
 {
     let reading = question::read(q);
     match reading {

@@ -1,3 +1,5 @@
+-- `checker::walk` and `checker::walk_premises` meet their contracts.
+-- The measure is twice the connectives left, and one more where the command is still to be read. Assumes nothing.
 use Prim.Native.Nat.{ℕ, _+_, _*_, _≤_, _<_}
 use native.Mathlib.Omega.{arith}
 use lib.ListN.{length, getD}
@@ -141,7 +143,7 @@ pub +walk+walk-premises-spec : {M : Type 1} → statement M
     let s = c .before .before .before .before .before .before .before .before .before .before .before in
     let m = found-now t (c .before .before) in (
       omega (arith, s .pre .0),
-      (s .pre .1 .0, s .pre .1 .1, rw (c .wide .ensures) (reducing (s .args .q .now) (s .args .s) _ _ _ (c .before .reduction-of .result) (m .1) (m .2) (c .before .reduction-of .ensures)), more-now t (c .before .before .before .before .before)),
+      (s .pre .1 .0, s .pre .1 .1, rw (c .wide .ensures) (reducing (s .args .q .now) (s .args .s) _ _ _ (c .before .reduction-of .result) (m .1) (m .2) (c .before .reduction-of .ensures)), omega (arith, more-now t (c .before .before .before .before .before))),
     ))
     (λ c.
     let a = c .before .before .before .before .before .before .before .before .before .args in
@@ -170,7 +172,7 @@ pub +walk+walk-premises-spec : {M : Type 1} → statement M
     (λ c κs.
     let s = c .before .before .before .before in
     let w = first-now t c in
-    (omega (arith, s .pre .0, w .fewer), (c .premise .ensures .1, w .roomy, s .pre .1 .3)))
+    (omega (arith, s .pre .0, w .fewer), (c .premise .ensures .1, w .roomy, omega (arith, s .pre .1 .3))))
     (λ c.
     let s = c .before .before .before .before .before .before .before in
     let a = s .args in
@@ -191,7 +193,7 @@ pub +walk+walk-premises-spec : {M : Type 1} → statement M
     let s = c .before .before .before .before .before .before .before .before .before .before .before in
     let w = second-now t c in
     let m = rw (c .before .before .first .given .1) at (c .before .before .before .before .before .before .walk .ensures) in
-    (omega (arith, s .pre .0, w .fewer), (c .premise2 .ensures .1, w .roomy, m .0)))
+    (omega (arith, s .pre .0, w .fewer), (c .premise2 .ensures .1, w .roomy, omega (arith, m .0, s .pre .1 .3))))
     (λ c. search needs)
     (λ c.
     let s = c .before .before .before .before .before .before .before .before .before .before .before .before in
