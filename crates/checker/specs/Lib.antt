@@ -1,0 +1,3 @@
+-- What the checker's contracts cite beside document 01's definitions.
+pub mod Answers
+pub mod Walks
