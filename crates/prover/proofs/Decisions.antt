@@ -65,14 +65,12 @@ counted b S =
 -- ---- the answers
 
 module _ (q : List ℕ) (b : ℕ) where
-  pub decided : reading q ≡ accepted → (o : Outcome) → o ≡ outcome b (question q)
-      → decisionOf (Decided (record { kind = o .kind; reductions = b - o .unspent; closings = o .closings })) ≡ decideReply q b
-  decided a o e = rw (a, e)
+  pub decided : reading q ≡ accepted → (v : Verdict) → v ≡ verdict b (question q) → decisionOf (Decided v) ≡ decideReply q b
+  decided a v e = rw (a, e)
 
-  pub promised : reading q ≡ accepted → (o : Outcome) → o ≡ outcome b (question q)
-      → (v : Verdict) → Decided (record { kind = o .kind; reductions = b - o .unspent; closings = o .closings }) ≡ Decided v → Promised q b v
-  promised a o e v d =
-      let w : verdict b (question q) ≡ v = ap (λ (u : Outcome). record { kind = u .kind; reductions = b - u .unspent; closings = u .closings }) (sym e) ∙ (cc) in
+  pub promised : reading q ≡ accepted → (u : Verdict) → u ≡ verdict b (question q) → (v : Verdict) → Decided u ≡ Decided v → Promised q b v
+  promised a u e v d =
+      let w : verdict b (question q) ≡ v = sym e ∙ (cc) in
       subst (Promised q b) w (record { read = a; truthful = truthful b (question q); counted = counted b (question q) })
 
   pub budget-left : (o : Outcome) → o ≡ outcome b (question q) → o .unspent ≤ b

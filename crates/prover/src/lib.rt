@@ -16,7 +16,7 @@ ghost use Rattle.calculus.specs.Syntax.{c};
 ghost use Rattle.calculus.specs.Bytes.{question};
 ghost use Rattle.calculus.specs.Reading.{reading, accepted};
 ghost use Rattle.calculus.specs.Reply.{decideReply};
-ghost use Rattle.calculus.specs.Tree.{outcome, afford, due};
+ghost use Rattle.calculus.specs.Tree.{outcome, verdict, afford, due};
 ghost use Rattle.sequent.specs.View.{sequentOf, Good};
 ghost use Rattle.reduction.specs.Reduction.{compoundAt, FoundAt, overfullOf};
 ghost use Rattle.prover.specs.Answers.{decisionOf, Promised};
@@ -151,6 +151,20 @@ pub fn run_question(q: &[u8], budget: u64) -> Outcome
     run(q, reduction::root(q), budget)
 }
 
+// The verdict of an accepted question.
+pub fn verdict_of(q: &[u8], budget: u64) -> Verdict
+    requires { ⌜ reading (now q) ≡ accepted ⌝ }
+    ensures { λ r. ⌜ r ≡ verdict budget (question (now (q .entry))) ⌝ }
+{
+    let o = run_question(q, budget);
+    let kind = o.kind;
+    Verdict {
+        kind: kind,
+        reductions: budget - o.unspent,
+        closings: o.closings,
+    }
+}
+
 pub enum Decision {
     Refused(Refusal),
     Decided(Verdict),
@@ -163,15 +177,7 @@ pub fn decide(q: &[u8], budget: u64) -> Decision
 {
     let reading = question::read(q);
     match reading {
-        Reading::Accepted => {
-            let o = run_question(q, budget);
-            let kind = o.kind;
-            Decision::Decided(Verdict {
-                kind: kind,
-                reductions: budget - o.unspent,
-                closings: o.closings,
-            })
-        }
+        Reading::Accepted => Decision::Decided(verdict_of(q, budget)),
         Reading::Refused(r) => Decision::Refused(r),
     }
 }

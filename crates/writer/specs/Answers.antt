@@ -10,8 +10,10 @@ use Rattle.calculus.specs.Limits.{NOT-PROVED, NO-SPACE}
 use Rattle.calculus.specs.Bytes.{question}
 use Rattle.calculus.specs.Reading.{accepted, reading}
 use Rattle.calculus.specs.Truth.{Valid}
-use Rattle.calculus.specs.Derivation.{passes, checking}
-use Rattle.calculus.specs.Reply.{Reply, verdictReply}
+use Rattle.calculus.specs.Tree.{tree, reductions, closings}
+use Rattle.calculus.specs.Derivation.{derivation, passes, checking}
+use Rattle.calculus.specs.Syntax.{Sequent}
+use Rattle.calculus.specs.Reply.{Reply, verdictReply, writeOut}
 use Rattle.question.specs.Answers.{numberOf, placeOf}
 use Rattle.writer.specs.declared.Answer.{Answer}
 use Rattle.writer.specs.declared.Answer.the-variants.{Refused, NotProved, NoSpace, Written}
@@ -32,6 +34,17 @@ answerOf (Written n v) = record { number = 0; values = n ∷ v .reductions ∷ v
 -- bytes from a place on; the rest keeps its content
 abbrev pub laid : List ℕ → ℕ → List ℕ → List ℕ
 laid l at xs = take at l ++ (xs ++ drop (at + length xs) l)
+
+-- the whole tree's verdict: a theorem, with both counts
+pub record IsTheorem (S : Sequent) (v : Verdict) : Type 0 where
+  pub proved : tree S .end ≡ Theorem
+  pub counts : v ≡ record { kind = Theorem; reductions = reductions (tree S .events); closings = closings (tree S .events) }
+
+-- a theorem's answer, and the buffer after it, as `writeOut` has them
+pub record WrittenOut (S : Sequent) (v : Verdict) (old new : List ℕ) (r : Answer) : Type 0 where
+  pub reply : answerOf r ≡ writeOut Theorem (v .reductions) (v .closings) (derivation S) old .reply
+  pub buffer : new ≡ writeOut Theorem (v .reductions) (v .closings) (derivation S) old .buffer
+  pub taken : (n : ℕ) (u : Verdict) → r ≡ Written n u → take n new ≡ derivation S
 
 -- "our derivation of a theorem passes the checker"
 pub record Evidence (q : List ℕ) (bytes : List ℕ) : Type 0 where

@@ -22,7 +22,7 @@ ghost use Rattle.question.specs.Positions.{formulaAt};
 ghost use Rattle.sequent.specs.View.{sequentOf, Stands, Good};
 ghost use Rattle.reduction.specs.Reduction.{compoundAt, IsCompound};
 ghost use Rattle.prover.specs.Inner.{IsDue};
-ghost use Rattle.writer.specs.Answers.{answerOf, laid, Evidence};
+ghost use Rattle.writer.specs.Answers.{answerOf, laid, IsTheorem, WrittenOut, Evidence};
 
 pub enum Answer {
     Refused(Refusal),
@@ -114,4 +114,37 @@ fn emit_reduction(
         buffer,
         e,
     )
+}
+
+// The derivation of a theorem, if the buffer holds it.
+fn write_out(q: &[u8], v: Verdict, buffer: &mut [u8]) -> Answer
+    requires { ⌜ (reading (now q) ≡ accepted) × IsTheorem (question (now q)) v ⌝ }
+    ensures { λ r. ⌜ WrittenOut (question (now (q .entry))) v (now (buffer .entry)) (now (buffer .exit)) r ⌝ }
+{
+    let needed = 2 * (v.reductions + v.closings);
+    if (buffer.len() as u64) < needed {
+        return Answer::NoSpace(needed);
+    }
+    emit(q, reduction::root(q), buffer, 0);
+    Answer::Written(needed, v)
+}
+
+// Decides a question, and writes the derivation of a theorem.
+pub fn derive(q: &[u8], budget: u64, buffer: &mut [u8]) -> Answer
+    ensures reply { λ r. ⌜ answerOf r ≡ derive (now (q .entry)) budget (now (buffer .entry)) .reply ⌝ }
+    ensures written { λ r. ⌜ now (buffer .exit) ≡ derive (now (q .entry)) budget (now (buffer .entry)) .buffer ⌝ }
+    ensures evidence { λ r. ⌜ ((n : ℕ) (v : Verdict) → r ≡ Answer.Written n v → Evidence (now (q .entry)) (take n (now (buffer .exit)))) ⌝ }
+{
+    let reading = question::read(q);
+    match reading {
+        Reading::Accepted => {
+            let v = prover::verdict_of(q, budget);
+            let kind = v.kind;
+            match kind {
+                Kind::Theorem => write_out(q, v, buffer),
+                _ => Answer::NotProved(v),
+            }
+        }
+        Reading::Refused(r) => Answer::Refused(r),
+    }
 }
