@@ -1,51 +1,60 @@
+use mathlib.Core.Path.{_≡_, sym, ap, _∙_}
+use Rattle.calculus.specs.Reading.{accepted, reading}
+use Rattle.question.specs.Answers.{readingOf}
+use Rattle.writer.proofs.Answering.{theorem-is, theorem-answers, other-answers, refusal-answers}
 use borrow.Author.Needs.{needs}
 use Rattle.writer.proofs.derive.Statement.{statement}
 use Rattle.writer.proofs.derive.Tie as tie
-use Rattle.writer.proofs.derive.Reads as reads
-use Rattle.writer.proofs.derive.Lts as lts
-use Rattle.prover.proofs.verdict_of.Reads as verdict-of-reads
-use Rattle.question.proofs.read.Reads as read-reads
-use Rattle.writer.proofs.write_out.Reads as write-out-reads
 
--- src/lib.rt:138:9
+accepted-now : (c : tie.After-enum-told) → reading (c .before .before .before .before .before .args .q .now) ≡ accepted
+accepted-now c = sym (c .before .before .read .ensures) ∙ ap readingOf (c .enum-told .given .1)
+
 read-requires : tie.Need-read-requires
 read-requires c κs = search needs
 
--- src/lib.rt:141:17
 enum-told : tie.Need-enum-told
 enum-told c = search needs
 
--- src/lib.rt:141:17
 verdict-of-requires : tie.Need-verdict-of-requires
-verdict-of-requires c κs = ?
+verdict-of-requires c κs = accepted-now c
 
--- src/lib.rt:144:50
 enum-told-2 : tie.Need-enum-told-2
 enum-told-2 c = search needs
 
--- src/lib.rt:144:34
 write-out-requires : tie.Need-write-out-requires
-write-out-requires c κs = ?
+write-out-requires c κs =
+    let a = c .before .before .before .before .before .before .before .before .before .args in
+    let v = c .before .before .before .verdict-of in
+    let h = accepted-now (c .before .before .before .before) in
+    (h, theorem-is (a .q .now) (a .budget) h (v .result) (v .ensures) (c .before .enum-told2 .given .1))
 
--- src/lib.rt:148:26
 enum-known-reading : tie.Need-enum-known-reading
 enum-known-reading c = search needs
 
--- src/lib.rt:133:1
 same-length : tie.Need-same-length
 same-length c = search needs
 
--- src/lib.rt:133:1
 returns : tie.Need-returns
-returns c = ?
+returns c =
+    let a = c .before .before .before .before .before .before .before .before .before .before .before .before .args in
+    let v = c .before .before .before .before .before .before .verdict-of in
+    let w = c .before .before .write-out in
+    let all = theorem-answers (a .q .now) (a .budget) (accepted-now (c .before .before .before .before .before .before .before)) (v .result) (v .ensures) (a .buffer .now) _ (w .result) (c .before .before .before .before .enum-told2 .given .1) (w .ensures) in
+    (all .0, (all .1, all .2))
 
--- src/lib.rt:133:1
 returns-2 : tie.Need-returns-2
-returns-2 c = ?
+returns-2 c =
+    let a = c .before .before .before .before .before .before .before .args in
+    let v = c .before .verdict-of in
+    let all = other-answers (a .q .now) (a .budget) (accepted-now (c .before .before)) (v .result) (v .ensures) (a .buffer .now) (c .match2 .keys2) in
+    (all .0, (all .1, all .2))
 
--- src/lib.rt:133:1
 returns-3 : tie.Need-returns-3
-returns-3 c = ?
+returns-3 c =
+    let a = c .before .before .before .before .before .before .args in
+    let r = c .before .reading .given in
+    let all = refusal-answers (a .q .now) (a .budget) (a .buffer .now) (r .0 .0) (rw (r .1) at (c .before .before .before .read .ensures)) in
+    (all .0, (all .1, all .2))
 
 pub derive-spec : {M : Type 1} → statement M
 derive-spec =

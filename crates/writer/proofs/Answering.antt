@@ -1,0 +1,139 @@
+-- What a theorem's derivation needs, and the answers of the call that writes it.
+-- Assumes nothing.
+use mathlib.Core.Path.{_≡_, refl, sym, ap, _∙_, subst}
+use mathlib.Core.Logic.{_≢_}
+use mathlib.Core.Bool.{Bool, true, false}
+use mathlib.Core.List.{List, [], _∷_, _++_}
+use Prim.Native.Nat.{ℕ, _+_, _*_, _^_, _≤_, _<_}
+use native.Mathlib.Decide.{decLt}
+use lib.Pow.{pow-mono}
+use native.Mathlib.Nat.{mul-le-mul}
+use native.Mathlib.Omega.{arith}
+use borrow.Author.Tests.{lt-ltb, le-ltb}
+use lib.Dec.{ltb}
+use lib.ListN.{length, take, drop}
+use lib.Seq.{take-at}
+use types.Run.{OneOf, miss}
+use denote.Enum.Declared.{tagOf}
+use Rattle.calculus.specs.declared.Kind.{Kind}
+use Rattle.calculus.specs.declared.Kind.the-variants.{Theorem, Refuted, Spent, Full}
+use Rattle.calculus.specs.declared.Verdict.{Verdict}
+use Rattle.calculus.proofs.Kind.{the-type}
+use Rattle.calculus.specs.Fold.{choose}
+use Rattle.calculus.specs.Limits.{CONNECTIVES}
+use Rattle.calculus.specs.Syntax.{Sequent, c}
+use Rattle.calculus.specs.Bytes.{question}
+use Rattle.calculus.specs.Reading.{Reading, accepted, refused, reading}
+use Rattle.calculus.specs.Tree.{tree, reductions, closings, verdict}
+use Rattle.calculus.specs.Width.{W}
+use Rattle.calculus.specs.Derivation.{derivation, checking}
+use Rattle.calculus.specs.Reply.{derive, Written as Wrote, writeOut}
+use Rattle.calculus.proofs.Bounds.{reductions-bound, closings-bound, W-bound, theorem-true}
+use Rattle.calculus.proofs.Budgets.{spent-verdict, whole-verdict}
+use Rattle.calculus.proofs.Derivations.{derivation-length, derivation-passes}
+use Rattle.question.specs.Answers.{numberOf, placeOf}
+use Rattle.question.specs.declared.Refusal.{Refusal}
+use Rattle.writer.specs.declared.Answer.{Answer}
+use Rattle.writer.specs.declared.Answer.the-variants.{Refused, NotProved, NoSpace, Written}
+use Rattle.writer.specs.Answers.{answerOf, laid, IsTheorem, WrittenOut, Evidence}
+
+laid-start : (l xs : List ℕ) → laid l 0 xs ≡ xs ++ drop (length xs) l
+laid-start l xs = ap (λ (w : List ℕ). w ++ (xs ++ drop (0 + length xs) l)) (none-taken l) ∙ ap (λ (k : ℕ). xs ++ drop k l) (none-added (length xs))
+  where
+    none-taken : (l : List ℕ) → take 0 l ≡ []
+    none-taken [] = refl
+    none-taken (x ∷ l) = refl
+
+    none-added : (n : ℕ) → 0 + n ≡ n
+    none-added n = omega arith
+
+-- ---- the length needed
+
+module _ (S : Sequent) (v : Verdict) (t : IsTheorem S v) where
+  pub needed : 2 * (v .reductions + v .closings) ≡ length (derivation S)
+  needed = omega (arith, derivation-length S, ap (λ (u : Verdict). u .reductions) (t .counts), ap (λ (u : Verdict). u .closings) (t .counts))
+
+  pub counts-small : c S ≤ CONNECTIVES → v .reductions + v .closings ≤ (1 + CONNECTIVES) * 2 ^ CONNECTIVES
+  counts-small h =
+      let p : 2 ^ c S ≤ 2 ^ CONNECTIVES = pow-mono {j = CONNECTIVES} h in
+      let w : W S ≤ 2 ^ CONNECTIVES = omega (arith, W-bound S) in
+      let m : c S * W S ≤ CONNECTIVES * 2 ^ CONNECTIVES = mul-le-mul h w in
+      omega (arith, reductions-bound S, closings-bound S, ap (λ (u : Verdict). u .reductions) (t .counts), ap (λ (u : Verdict). u .closings) (t .counts))
+
+  -- ---- the two answers of a theorem
+
+  written-out : (old : List ℕ) (b : Bool) → ltb (length old) (length (derivation S)) ≡ b → writeOut Theorem (v .reductions) (v .closings) (derivation S) old
+      ≡ choose b (record { reply = record { number = 11; values = length (derivation S) ∷ [] }; buffer = old })
+      (record { reply = record { number = 0; values = length (derivation S) ∷ v .reductions ∷ v .closings ∷ [] }; buffer = derivation S ++ drop (length (derivation S)) old })
+  written-out old b e = ap (λ (x : Bool). choose x (record { reply = record { number = 11; values = length (derivation S) ∷ [] }; buffer = old })
+      (record { reply = record { number = 0; values = length (derivation S) ∷ v .reductions ∷ v .closings ∷ [] }; buffer = derivation S ++ drop (length (derivation S)) old })) e
+
+  pub no-space : (old : List ℕ) (n : ℕ) → n ≡ 2 * (v .reductions + v .closings) → length old < n → WrittenOut S v old old (NoSpace n)
+  no-space old n e h =
+      let w = written-out old true (lt-ltb (length old) (length (derivation S)) (omega (arith, needed))) in
+      record {
+        reply = ap (λ (m : ℕ). record { number = 11; values = m ∷ [] }) (e ∙ needed) ∙ ap (λ (x : Wrote). x .reply) (sym w);
+        buffer = ap (λ (x : Wrote). x .buffer) (sym w);
+        taken = λ m u d. let z : _≡_ {A = ℕ} 0 1 = cc in absurd (omega arith);
+      }
+
+  pub space : (old new : List ℕ) (n : ℕ) → n ≡ 2 * (v .reductions + v .closings) → n ≤ length old → new ≡ laid old 0 (derivation S) → WrittenOut S v old new (Written n v)
+  space old new n e h o =
+      let l : new ≡ derivation S ++ drop (length (derivation S)) old = o ∙ laid-start old (derivation S) in
+      let w = written-out old false (le-ltb (length old) (length (derivation S)) (omega (arith, needed))) in
+      record {
+        reply = ap (λ (m : ℕ). record { number = 0; values = m ∷ v .reductions ∷ v .closings ∷ [] }) (e ∙ needed) ∙ ap (λ (x : Wrote). x .reply) (sym w);
+        buffer = l ∙ ap (λ (x : Wrote). x .buffer) (sym w);
+        taken = λ m u d. let k : n ≡ m = cc in ap (take m) l ∙ take-at (derivation S) (drop (length (derivation S)) old) m (omega (arith, needed));
+      }
+
+-- ---- the answers of the call
+
+is-theorem : (b : ℕ) (S : Sequent) (v : Verdict) → v ≡ verdict b S → v .kind ≡ Theorem → IsTheorem S v
+is-theorem b S v e h = go (decLt b (reductions (tree S .events)))
+  where
+    go : Dec (b < reductions (tree S .events)) → IsTheorem S v
+    go (yes l) = let z : Spent ≡ Theorem = ap (λ (u : Verdict). u .kind) (sym (e ∙ spent-verdict b S l)) ∙ h in let y : _≡_ {A = ℕ} 0 1 = cc in absurd (omega arith)
+    go (no l) =
+        let w = e ∙ whole-verdict b S (omega arith) in
+        let p : tree S .end ≡ Theorem = ap (λ (u : Verdict). u .kind) (sym w) ∙ h in
+        record { proved = p; counts = w ∙ ap (λ (k : Kind). record { kind = k; reductions = reductions (tree S .events); closings = closings (tree S .events) }) p }
+
+-- what the contract says of an answer
+abbrev pub Answers : List ℕ → ℕ → List ℕ → List ℕ → Answer → Type 0
+Answers q b old new r =
+    (answerOf r ≡ derive q b old .reply) × (new ≡ derive q b old .buffer) × ((n : ℕ) (v : Verdict) → r ≡ Written n v → Evidence q (take n new))
+
+module _ (q : List ℕ) (b : ℕ) (a : reading q ≡ accepted) (v : Verdict) (e : v ≡ verdict b (question q)) where
+  pub theorem-is : v .kind ≡ Theorem → IsTheorem (question q) v
+  theorem-is = is-theorem b (question q) v e
+
+  out : (old : List ℕ) → derive q b old ≡ writeOut (v .kind) (v .reductions) (v .closings) (derivation (question q)) old
+  out old = rw (a, e)
+
+  pub theorem-answers : (old new : List ℕ) (r : Answer) → v .kind ≡ Theorem → WrittenOut (question q) v old new r → Answers q b old new r
+  theorem-answers old new r k w =
+      let o : derive q b old ≡ writeOut Theorem (v .reductions) (v .closings) (derivation (question q)) old = out old ∙ ap (λ (x : Kind). writeOut x (v .reductions) (v .closings) (derivation (question q)) old) k in
+      let p = is-theorem b (question q) v e k .proved in (
+        w .reply ∙ ap (λ (x : Wrote). x .reply) (sym o),
+        w .buffer ∙ ap (λ (x : Wrote). x .buffer) (sym o),
+        λ n u d. record { read = a; valid = theorem-true (question q) p; checks = ap (checking (question q)) (w .taken n u d) ∙ derivation-passes (question q) p },
+      )
+
+  pub other-answers : (old : List ℕ) → OneOf (1 ∷ 2 ∷ 3 ∷ []) (tagOf the-type (v .kind)) → Answers q b old old (NotProved v)
+  other-answers old k = (reply (v .kind) k ∙ ap (λ (x : Wrote). x .reply) (sym (out old)), buffer (v .kind) k ∙ ap (λ (x : Wrote). x .buffer) (sym (out old)), λ n u d. let z : _≡_ {A = ℕ} 0 1 = cc in absurd (omega arith))
+    where
+      reply : (x : Kind) → OneOf (1 ∷ 2 ∷ 3 ∷ []) (tagOf the-type x) → answerOf (NotProved (record { kind = x; reductions = v .reductions; closings = v .closings })) ≡ writeOut x (v .reductions) (v .closings) (derivation (question q)) old .reply
+      reply Theorem o = absurd (miss (1 ∷ 2 ∷ 3 ∷ []) 0 tt o)
+      reply (Refuted σ) o = refl
+      reply Spent o = refl
+      reply Full o = refl
+
+      buffer : (x : Kind) → OneOf (1 ∷ 2 ∷ 3 ∷ []) (tagOf the-type x) → old ≡ writeOut x (v .reductions) (v .closings) (derivation (question q)) old .buffer
+      buffer Theorem o = absurd (miss (1 ∷ 2 ∷ 3 ∷ []) 0 tt o)
+      buffer (Refuted σ) o = refl
+      buffer Spent o = refl
+      buffer Full o = refl
+
+pub refusal-answers : (q : List ℕ) (b : ℕ) (old : List ℕ) (r : Refusal) → refused (numberOf r) (placeOf r) ≡ reading q → Answers q b old old (Refused r)
+refusal-answers q b old r e = (rw (← e), rw (← e), λ n u d. let z : _≡_ {A = ℕ} 0 1 = cc in absurd (omega arith))
