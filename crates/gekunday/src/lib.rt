@@ -1,0 +1,239 @@
+// The library's calls for C.
+use calculus::Kind;
+use calculus::Part;
+use calculus::Side;
+use calculus::Verdict;
+use checker::Fault;
+use question::Reading;
+use question::Refusal;
+ghost use mathlib.Core.Path.{_≡_};
+ghost use mathlib.Core.List.{[], _∷_};
+ghost use Prim.Native.Nat.{ℕ};
+ghost use Rattle.calculus.specs.Reply.{decideReply, widthReply, derive, checkReply};
+ghost use Rattle.question.specs.Answers.{numberOf, placeOf};
+ghost use Rattle.width.specs.Answers.{widthOf};
+ghost use Rattle.writer.specs.Answers.{unproved, answerOf};
+ghost use Rattle.checker.specs.Answers.{faultNumber, faultPlace, checkOf};
+ghost use Rattle.gekunday.specs.Words.{filled, Holds, kindNumber, refutedWord, stateWord, decideWords, partWords, formulaWords};
+
+// A number and the words beside it.
+struct Words {
+    number: u32,
+    first: u64,
+    second: u64,
+    third: u64,
+}
+
+fn placed(number: u32, place: usize) -> Words
+    ensures { λ w. ⌜ Holds (record { number = number; values = place ∷ [] }) w ⌝ }
+{
+    Words {
+        number: number,
+        first: place as u64,
+        second: 0,
+        third: 0,
+    }
+}
+
+fn refusal_words(r: Refusal) -> Words
+    ensures { λ w. ⌜ Holds (record { number = numberOf r; values = placeOf r ∷ [] }) w ⌝ }
+{
+    match r {
+        Refusal::TooLong => placed(1, 212),
+        Refusal::Cut(at) => placed(2, at),
+        Refusal::WrongCommand(at) => placed(3, at),
+        Refusal::ManyFormulas(at) => placed(4, at),
+        Refusal::NoSuchLetter(at) => placed(5, at),
+        Refusal::ManyConnectives(at) => placed(6, at),
+        Refusal::LeftOver(at) => placed(7, at),
+    }
+}
+
+fn width_words(a: width::Answer) -> Words
+    ensures { λ w. ⌜ Holds (widthOf a) w ⌝ }
+{
+    match a {
+        width::Answer::Refused(r) => refusal_words(r),
+        width::Answer::Of(w, c) => Words {
+            number: 0,
+            first: w,
+            second: c,
+            third: 0,
+        },
+    }
+}
+
+// A question that is no theorem: its state if it is refuted, and both counts.
+fn unproved_words(v: Verdict) -> Words
+    ensures { λ w. ⌜ Holds (unproved (v .kind) (v .reductions) (v .closings)) w ⌝ }
+{
+    let kind = v.kind;
+    match kind {
+        Kind::Refuted(state) => Words {
+            number: 10,
+            first: state as u64,
+            second: v.reductions,
+            third: v.closings,
+        },
+        Kind::Theorem => counts(0, v),
+        Kind::Spent => counts(9, v),
+        Kind::Full => counts(8, v),
+    }
+}
+
+fn counts(number: u32, v: Verdict) -> Words
+    ensures { λ w. ⌜ Holds (record { number = number; values = v .reductions ∷ v .closings ∷ [] }) w ⌝ }
+{
+    Words {
+        number: number,
+        first: v.reductions,
+        second: v.closings,
+        third: 0,
+    }
+}
+
+fn derivation_words(a: writer::Answer) -> Words
+    ensures { λ w. ⌜ Holds (answerOf a) w ⌝ }
+{
+    match a {
+        writer::Answer::Refused(r) => refusal_words(r),
+        writer::Answer::NotProved(v) => unproved_words(v),
+        writer::Answer::NoSpace(n) => Words {
+            number: 11,
+            first: n,
+            second: 0,
+            third: 0,
+        },
+        writer::Answer::Written(n, v) => Words {
+            number: 0,
+            first: n,
+            second: v.reductions,
+            third: v.closings,
+        },
+    }
+}
+
+fn fault_words(f: Fault) -> Words
+    ensures { λ w. ⌜ Holds (record { number = faultNumber f; values = faultPlace f ∷ [] }) w ⌝ }
+{
+    match f {
+        Fault::CutShort(at) => placed(20, at),
+        Fault::UnknownCommand(at) => placed(21, at),
+        Fault::NoFormula(at) => placed(22, at),
+        Fault::OtherConnective(at) => placed(23, at),
+        Fault::NotClosed(at) => placed(24, at),
+        Fault::BytesAfter(at) => placed(25, at),
+    }
+}
+
+fn check_words(a: checker::Answer) -> Words
+    ensures { λ w. ⌜ Holds (checkOf a) w ⌝ }
+{
+    match a {
+        checker::Answer::Refused(r) => refusal_words(r),
+        checker::Answer::Faulty(f) => fault_words(f),
+        checker::Answer::Passes => Words {
+            number: 0,
+            first: 0,
+            second: 0,
+            third: 0,
+        },
+    }
+}
+
+// A verdict's number and words.
+struct Decided {
+    number: u32,
+    refuted: u64,
+    state: u64,
+}
+
+fn kind_words(kind: Kind) -> Decided
+    ensures { λ d. ⌜ d ≡ record { number = kindNumber kind; refuted = refutedWord kind; state = stateWord kind } ⌝ }
+{
+    match kind {
+        Kind::Theorem => Decided { number: 0, refuted: 0, state: 0 },
+        Kind::Refuted(state) => Decided { number: 0, refuted: 1, state: state as u64 },
+        Kind::Spent => Decided { number: 9, refuted: 0, state: 0 },
+        Kind::Full => Decided { number: 8, refuted: 0, state: 0 },
+    }
+}
+
+// Where a formula's bytes start and how many they are.
+fn part_of(q: &[u8], side: u32, place: usize) -> Part
+    ensures { λ p. ⌜ partWords p ≡ formulaWords (now (q .entry)) side place ⌝ }
+{
+    match side {
+        0 => question::formula_part(q, Side::Left, place),
+        1 => question::formula_part(q, Side::Right, place),
+        _ => Part { start: 0, count: 0 },
+    }
+}
+
+// Decides a question within a budget of reductions.
+#[no_mangle]
+pub extern "C" fn gekunday_decide(q: &[u8], budget: u64, out: &mut [u64; 4]) -> u32
+    ensures number { λ r. ⌜ r ≡ decideReply (now (q .entry)) budget .number ⌝ }
+    ensures words { λ r. ⌜ now (out .exit) ≡ decideWords (now (q .entry)) budget ⌝ }
+{
+    let reading = question::read(q);
+    match reading {
+        Reading::Accepted => {
+            let v = prover::verdict_of(q, budget);
+            let kind = v.kind;
+            let d = kind_words(kind);
+            *out = [d.refuted, d.state, v.reductions, v.closings];
+            d.number
+        }
+        Reading::Refused(r) => {
+            let w = refusal_words(r);
+            *out = [w.first, 0, 0, 0];
+            w.number
+        }
+    }
+}
+
+// The width of a question, and its connectives.
+#[no_mangle]
+pub extern "C" fn gekunday_width(q: &[u8], out: &mut [u64; 2]) -> u32
+    ensures number { λ r. ⌜ r ≡ widthReply (now (q .entry)) .number ⌝ }
+    ensures words { λ r. ⌜ now (out .exit) ≡ filled 2 (widthReply (now (q .entry)) .values) ⌝ }
+{
+    let w = width_words(width::width(q));
+    *out = [w.first, w.second];
+    w.number
+}
+
+// The part of a question that is the formula at a place of a side: 0 left, 1 right.
+#[no_mangle]
+pub extern "C" fn gekunday_formula(q: &[u8], side: u32, place: usize, out: &mut [u64; 2]) -> u32
+    ensures number { λ r. ⌜ r ≡ 0 ⌝ }
+    ensures words { λ r. ⌜ now (out .exit) ≡ formulaWords (now (q .entry)) side place ⌝ }
+{
+    let p = part_of(q, side, place);
+    *out = [p.start as u64, p.count as u64];
+    0
+}
+
+// Decides a question, and writes the derivation of a theorem.
+#[no_mangle]
+pub extern "C" fn gekunday_derive(q: &[u8], budget: u64, buffer: &mut [u8], out: &mut [u64; 3]) -> u32
+    ensures number { λ r. ⌜ r ≡ derive (now (q .entry)) budget (now (buffer .entry)) .reply .number ⌝ }
+    ensures words { λ r. ⌜ now (out .exit) ≡ filled 3 (derive (now (q .entry)) budget (now (buffer .entry)) .reply .values) ⌝ }
+    ensures written { λ r. ⌜ now (buffer .exit) ≡ derive (now (q .entry)) budget (now (buffer .entry)) .buffer ⌝ }
+{
+    let w = derivation_words(writer::derive(q, budget, buffer));
+    *out = [w.first, w.second, w.third];
+    w.number
+}
+
+// Checks a derivation of a question.
+#[no_mangle]
+pub extern "C" fn gekunday_check(q: &[u8], derivation: &[u8], out: &mut [u64; 1]) -> u32
+    ensures number { λ r. ⌜ r ≡ checkReply (now (q .entry)) (now (derivation .entry)) .number ⌝ }
+    ensures words { λ r. ⌜ now (out .exit) ≡ filled 1 (checkReply (now (q .entry)) (now (derivation .entry)) .values) ⌝ }
+{
+    let w = check_words(checker::check(q, derivation));
+    *out = [w.first];
+    w.number
+}
