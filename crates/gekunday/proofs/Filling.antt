@@ -34,9 +34,10 @@ words-of n h r s w k e =
 module _ (q : List ℕ) (b : ℕ) where
   pub verdict-words : reading q ≡ accepted → (v : Verdict) → v ≡ verdict b (question q) → (d : Decided) → d ≡ record { number = kindNumber (v .kind); refuted = refutedWord (v .kind); state = stateWord (v .kind) }
       → (d .number ≡ decideReply q b .number) × (d .refuted ∷ d .state ∷ v .reductions ∷ v .closings ∷ [] ≡ decideWords q b)
-  verdict-words a v e d w =
-      (ap (λ (x : Decided). x .number) w ∙ number (v .kind) (v .reductions) (v .closings) ∙ ap (λ (u : Verdict). verdictReply (u .kind) (u .reductions) (u .closings) .number) e ∙ rw a,
-      ap (λ (x : Decided). x .refuted ∷ x .state ∷ v .reductions ∷ v .closings ∷ []) w ∙ ap verdictWords e ∙ rw a)
+  verdict-words a v e d w = (
+    ap (λ (x : Decided). x .number) w ∙ number (v .kind) (v .reductions) (v .closings) ∙ ap (λ (u : Verdict). verdictReply (u .kind) (u .reductions) (u .closings) .number) e ∙ rw a,
+    ap (λ (x : Decided). x .refuted ∷ x .state ∷ v .reductions ∷ v .closings ∷ []) w ∙ ap verdictWords e ∙ rw a,
+  )
     where
       number : (k : Kind) (m n : ℕ) → kindNumber k ≡ verdictReply k m n .number
       number Theorem m n = refl

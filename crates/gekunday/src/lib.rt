@@ -1,20 +1,67 @@
-// The library's calls for C.
+// The library's calls, for Rattle and for C.
 use calculus::Kind;
 use calculus::Part;
 use calculus::Side;
 use calculus::Verdict;
 use checker::Fault;
+use prover::Decision;
 use question::Reading;
 use question::Refusal;
 ghost use mathlib.Core.Path.{_≡_};
 ghost use mathlib.Core.List.{[], _∷_};
 ghost use Prim.Native.Nat.{ℕ};
-ghost use Rattle.calculus.specs.Reply.{decideReply, widthReply, derive, checkReply};
+ghost use lib.ListN.{take};
+ghost use Rattle.calculus.specs.Bytes.{question};
+ghost use Rattle.calculus.specs.Reading.{accepted, reading};
+ghost use Rattle.calculus.specs.Truth.{Valid};
+ghost use Rattle.calculus.specs.Reply.{decideReply, widthReply, formulaBytes, derive, checkReply};
 ghost use Rattle.question.specs.Answers.{numberOf, placeOf};
 ghost use Rattle.width.specs.Answers.{widthOf};
-ghost use Rattle.writer.specs.Answers.{unproved, answerOf};
+ghost use Rattle.prover.specs.Answers.{decisionOf, Promised};
+ghost use Rattle.writer.specs.Answers.{unproved, answerOf, Evidence};
 ghost use Rattle.checker.specs.Answers.{faultNumber, faultPlace, checkOf};
+ghost use Rattle.writer.specs.declared.Answer.the-variants.{Written};
+ghost use Rattle.checker.specs.declared.Answer.the-variants.{Passes};
 ghost use Rattle.gekunday.specs.Words.{filled, Holds, kindNumber, refutedWord, stateWord, decideWords, partWords, formulaWords};
+
+// Decides a question within a budget of reductions.
+pub fn decide(q: &[u8], budget: u64) -> Decision
+    ensures reply { λ r. ⌜ decisionOf r ≡ decideReply (now (q .entry)) budget ⌝ }
+    ensures promise { λ r. ⌜ ((v : Verdict) → r ≡ Decision.Decided v → Promised (now (q .entry)) budget v) ⌝ }
+{
+    prover::decide(q, budget)
+}
+
+// The width of a question, and its connectives.
+pub fn width_of(q: &[u8]) -> width::Answer
+    ensures { λ r. ⌜ widthOf r ≡ widthReply (now (q .entry)) ⌝ }
+{
+    width::width(q)
+}
+
+// The formula at a place of a side: a part of the question.
+pub fn formula(q: &[u8], side: Side, place: usize) -> &[u8]
+    ensures { λ r. ⌜ now r ≡ formulaBytes (now (q .entry)) side place ⌝ }
+{
+    question::formula(q, side, place)
+}
+
+// Decides a question, and writes the derivation of a theorem.
+pub fn derive(q: &[u8], budget: u64, buffer: &mut [u8]) -> writer::Answer
+    ensures reply { λ r. ⌜ answerOf r ≡ derive (now (q .entry)) budget (now (buffer .entry)) .reply ⌝ }
+    ensures written { λ r. ⌜ now (buffer .exit) ≡ derive (now (q .entry)) budget (now (buffer .entry)) .buffer ⌝ }
+    ensures evidence { λ r. ⌜ ((n : ℕ) (v : Verdict) → r ≡ Written n v → Evidence (now (q .entry)) (take n (now (buffer .exit)))) ⌝ }
+{
+    writer::derive(q, budget, buffer)
+}
+
+// Checks a derivation of a question.
+pub fn check(q: &[u8], derivation: &[u8]) -> checker::Answer
+    ensures reply { λ r. ⌜ checkOf r ≡ checkReply (now (q .entry)) (now (derivation .entry)) ⌝ }
+    ensures sound { λ r. ⌜ (r ≡ Passes → (reading (now (q .entry)) ≡ accepted) × Valid (question (now (q .entry)))) ⌝ }
+{
+    checker::check(q, derivation)
+}
 
 // A number and the words beside it.
 struct Words {
@@ -152,10 +199,26 @@ fn kind_words(kind: Kind) -> Decided
     ensures { λ d. ⌜ d ≡ record { number = kindNumber kind; refuted = refutedWord kind; state = stateWord kind } ⌝ }
 {
     match kind {
-        Kind::Theorem => Decided { number: 0, refuted: 0, state: 0 },
-        Kind::Refuted(state) => Decided { number: 0, refuted: 1, state: state as u64 },
-        Kind::Spent => Decided { number: 9, refuted: 0, state: 0 },
-        Kind::Full => Decided { number: 8, refuted: 0, state: 0 },
+        Kind::Theorem => Decided {
+            number: 0,
+            refuted: 0,
+            state: 0,
+        },
+        Kind::Refuted(state) => Decided {
+            number: 0,
+            refuted: 1,
+            state: state as u64,
+        },
+        Kind::Spent => Decided {
+            number: 9,
+            refuted: 0,
+            state: 0,
+        },
+        Kind::Full => Decided {
+            number: 8,
+            refuted: 0,
+            state: 0,
+        },
     }
 }
 
@@ -217,7 +280,12 @@ pub extern "C" fn gekunday_formula(q: &[u8], side: u32, place: usize, out: &mut 
 
 // Decides a question, and writes the derivation of a theorem.
 #[no_mangle]
-pub extern "C" fn gekunday_derive(q: &[u8], budget: u64, buffer: &mut [u8], out: &mut [u64; 3]) -> u32
+pub extern "C" fn gekunday_derive(
+    q: &[u8],
+    budget: u64,
+    buffer: &mut [u8],
+    out: &mut [u64; 3],
+) -> u32
     ensures number { λ r. ⌜ r ≡ derive (now (q .entry)) budget (now (buffer .entry)) .reply .number ⌝ }
     ensures words { λ r. ⌜ now (out .exit) ≡ filled 3 (derive (now (q .entry)) budget (now (buffer .entry)) .reply .values) ⌝ }
     ensures written { λ r. ⌜ now (buffer .exit) ≡ derive (now (q .entry)) budget (now (buffer .entry)) .buffer ⌝ }

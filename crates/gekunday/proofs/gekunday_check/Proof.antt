@@ -15,6 +15,5 @@ returns c =
     let w = c .before .check-words in
     words-of 1 (omega arith) _ _ (w .result) (w .ensures) (c .before .before .check .ensures .0)
 
-
 pub gekunday-check-spec : {M : Type 1} → statement M
 gekunday-check-spec = tie.close (tie.spec check-requires check-words-requires returns)

@@ -20,7 +20,6 @@ returns c =
     let all = words-of 3 (omega arith) _ _ (w .result) (w .ensures) (d .0) in
     (all .0, (all .1, d .1 .0))
 
-
 pub gekunday-derive-spec : {M : Type 1} → statement M
 gekunday-derive-spec =
     tie.close (tie.spec derive-requires derivation-words-requires same-length returns)

@@ -15,6 +15,5 @@ returns c =
     let w = c .before .width-words in
     words-of 2 (omega arith) _ _ (w .result) (w .ensures) (c .before .before .width .ensures .0)
 
-
 pub gekunday-width-spec : {M : Type 1} → statement M
 gekunday-width-spec = tie.close (tie.spec width-requires width-words-requires returns)
