@@ -1,0 +1,44 @@
+use borrow.Author.Needs.{needs}
+use Rattle.ask.proofs.verdict_line.Statement.{statement}
+use Rattle.ask.proofs.verdict_line.Tie as tie
+
+enum-told : tie.Need-enum-told
+enum-told c = search needs
+
+enum-known-kind : tie.Need-enum-known-kind
+enum-known-kind c = search needs
+
+cast-t6 : tie.Need-cast-t6
+cast-t6 c = search needs
+
+enum-told-2 : tie.Need-enum-told-2
+enum-told-2 c = search needs
+
+enum-told-3 : tie.Need-enum-told-3
+enum-told-3 c = search needs
+
+returns : tie.Need-returns
+returns c = rw (c .enum-told .given .1)
+
+returns-2 : tie.Need-returns-2
+returns-2 c = rw (c .before .kind .given .1)
+
+returns-3 : tie.Need-returns-3
+returns-3 c = rw (c .enum-told2 .given .1)
+
+returns-4 : tie.Need-returns-4
+returns-4 c = rw (c .enum-told3 .given .1)
+
+pub verdict-line-spec : {M : Type 1} → statement M
+verdict-line-spec =
+    tie.close
+    (tie.spec
+    enum-told
+    enum-known-kind
+    cast-t6
+    enum-told-2
+    enum-told-3
+    returns
+    returns-2
+    returns-3
+    returns-4)

@@ -1,0 +1,2 @@
+-- What the functions' contracts say.
+pub mod Output
