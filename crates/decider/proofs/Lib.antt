@@ -1,0 +1,3 @@
+-- The laws behind the functions' proofs. Assumes nothing.
+pub mod Numbers
+pub mod States
