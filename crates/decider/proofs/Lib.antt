@@ -1,3 +1,6 @@
 -- The laws behind the functions' proofs. Assumes nothing.
 pub mod Numbers
 pub mod States
+pub mod Lines
+pub mod Closing
+pub mod Naming

@@ -44,8 +44,8 @@ waiting false d = []
 
 -- ---- a list of formulas, letters left out
 
--- the compound x, with its connectives between b and e, and the rest
-pub record Leads (T : List ℕ) (b e : ℕ) (x : Formula) (Rest : ℕ → ℕ → Type 0) (σ : ℕ) : Type 0 where
+-- the compound x, with its connectives from b on, and the rest
+pub record Leads (T : List ℕ) (b : ℕ) (x : Formula) (Rest : ℕ → ℕ → Type 0) (σ : ℕ) : Type 0 where
   pub number : ℕ
   pub rest : ℕ
   pub from : b ≤ number
@@ -57,8 +57,8 @@ pub record Leads (T : List ℕ) (b e : ℕ) (x : Formula) (Rest : ℕ → ℕ �
 abbrev pub Rising : List ℕ → ℕ → ℕ → List Formula → ℕ → Type 0
 Rising T b e [] σ = (σ ≡ 0) × (b ≤ e)
 Rising T b e (letter k ∷ xs) σ = Rising T b e xs σ
-Rising T b e (neg x ∷ xs) σ = Leads T b e (neg x) (λ a ρ. Rising T a e xs ρ) σ
-Rising T b e (join o x y ∷ xs) σ = Leads T b e (join o x y) (λ a ρ. Rising T a e xs ρ) σ
+Rising T b e (neg x ∷ xs) σ = Leads T b (neg x) (λ a ρ. Rising T a e xs ρ) σ
+Rising T b e (join o x y ∷ xs) σ = Leads T b (join o x y) (λ a ρ. Rising T a e xs ρ) σ
 
 pub record Waits (T : List ℕ) (e : ℕ) (x : Formula) (Rest : List ℕ → Type 0) (ns : List ℕ) : Type 0 where
   pub number : ℕ

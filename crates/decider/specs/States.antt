@@ -3,7 +3,7 @@ use mathlib.Core.Path.{_≡_}
 use mathlib.Core.Bool.{Bool, true, false}
 use mathlib.Core.Option.{some}
 use mathlib.Core.List.{List, [], _∷_, _++_, map}
-use Prim.Native.Nat.{ℕ, _+_, _-_, _*_, _/_, _%_, _^_, _≤_, _<_}
+use Prim.Native.Nat.{ℕ, suc, _+_, _-_, _*_, _/_, _%_, _^_, _≤_, _<_}
 use lib.Bits.{bitOr}
 use lib.Count.{trailingZeros}
 use lib.Dec.{eqb, ltb}
@@ -67,6 +67,11 @@ appended Right p f g s =
       from = s .from; to = s .to + length (partsWaiting Right p f g); size = s .size; connectives = s .connectives;
     }
 
+-- there is room for them at a side's end
+abbrev pub Takes : Side → Placing → ℕ → ℕ → ℕ → Sets → Type 0
+Takes Left p f g n s = s .left + partBits Left p f g < 2 ^ 64
+Takes Right p f g n s = s .to + 2 ≤ n
+
 -- the first that waits comes to the right's set, if that is empty
 abbrev pub fetched : List ℕ → Sets → Sets
 fetched Q s = choose (eqb (s .first) 0) (choose (ltb (s .from) (s .to)) (record {
@@ -124,7 +129,7 @@ pub record Runs (T Q : List ℕ) (s : Sets) (S : Sequent) : Type 0 where
 pub record Led (T : List ℕ) (n e : ℕ) (x : Compound) (i : ℕ) (xs : List Formula) (ρ : ℕ) : Type 0 where
   pub before : Rising T 0 n (take i xs) 0
   pub inside : i < length xs
-  pub behind : Rising T (n + connectives (whole x)) e (drop (i + 1) xs) ρ
+  pub behind : Rising T (n + connectives (whole x)) e (drop (suc i) xs) ρ
 
 -- the state without it
 pub record LacksLeft (T : List ℕ) (e : ℕ) (Q : List ℕ) (n i : ℕ) (x : Compound) (s : Sets) (S : Sequent) : Type 0 where
@@ -161,12 +166,12 @@ pub record Lacks (t : Side) (T : List ℕ) (e : ℕ) (Q : List ℕ) (n i : ℕ) 
 abbrev pub firstName : ℕ → Compound → ℕ
 firstName n x = name (n + 1) (x .f)
 
-abbrev pub secondNumber : ℕ → Connective → Formula → ℕ
-secondNumber n NOT f = n + 1
-secondNumber n (two b) f = n + 1 + connectives f
+abbrev pub secondOf : ℕ → Connective → Formula → Formula → ℕ
+secondOf n NOT f g = name (n + 1) f
+secondOf n (two b) f g = name (n + 1 + connectives f) g
 
 abbrev pub secondName : ℕ → Compound → ℕ
-secondName n x = name (secondNumber n (x .connective) (x .f)) (x .g)
+secondName n x = secondOf n (x .connective) (x .f) (x .g)
 
 -- what the reduction knows of the compound and the premises
 pub record Reduces (T Q : List ℕ) (i : ℕ) (x : Compound) (S : Sequent) (d : Reduction) : Type 0 where

@@ -20,7 +20,7 @@ ghost use Rattle.calculus.specs.Tree.{outcome, pass};
 ghost use Rattle.question.specs.Positions.{Well, formulaAt, endOf};
 ghost use Rattle.sequent.specs.Rule.{sideCode, premiseOf};
 ghost use Rattle.decider.specs.Names.{name, node, Told, bitOf, lampOf, waiting};
-ghost use Rattle.decider.specs.States.{partBits, partLamps, partsWaiting, setOf, replaced, appended, fetched, lowest, dueIn, placedOf, Reducing, Shows, Runs, Reduces, Took};
+ghost use Rattle.decider.specs.States.{partBits, partLamps, partsWaiting, setOf, replaced, appended, fetched, lowest, dueIn, placedOf, Takes, Reducing, Shows, Runs, Reduces, Took};
 
 // The connectives of a question are numbered in the order of its bytes, and a compound formula is named by its connective.
 // `left` and `first` are sets of such numbers: the left side, and what is left of the right formula under reduction. The
@@ -185,7 +185,7 @@ impl Sets {
 
     // The parts that change side go to its end.
     fn append(self, queue: &mut [u8], side: Side, p: Placing, f: u8, g: u8) -> Sets
-        requires { ⌜ (f < LETTERS + CONNECTIVES) × (g < LETTERS + CONNECTIVES) × (self .left + partBits Side.Left p f g < 2 ^ 64) × (self .to + 2 ≤ length (now queue)) ⌝ }
+        requires { ⌜ (f < LETTERS + CONNECTIVES) × (g < LETTERS + CONNECTIVES) × Takes side p f g (length (now queue)) self ⌝ }
         ensures { λ r. ⌜ (r ≡ appended side p f g self) × (take (r .to) (now (queue .exit)) ≡ take (self .to) (now (queue .entry)) ++ partsWaiting side p f g) ⌝ }
     {
         match side {
@@ -196,7 +196,7 @@ impl Sets {
 
     // The first that waits comes to the right's set, if that is empty.
     fn fetch(mut self, queue: &[u8]) -> Sets
-        requires { ⌜ (self .to ≤ length (now queue)) × ((i : ℕ) → self .from ≤ i → i < self .to → getD (now queue) i 0 < 64) ⌝ }
+        requires { ⌜ (self .to ≤ length (now queue)) × (self .from < self .to → getD (now queue) (self .from) 0 < 64) ⌝ }
         ensures { λ r. ⌜ r ≡ fetched (now (queue .entry)) self ⌝ }
     {
         let from = self.from;
@@ -212,7 +212,7 @@ impl Sets {
 
     // The first formula with a connective, the left side before the right.
     fn first_compound(mut self, queue: &[u8]) -> Due
-        requires { ⌜ (self .to ≤ length (now queue)) × ((i : ℕ) → self .from ≤ i → i < self .to → getD (now queue) i 0 < 64) ⌝ }
+        requires { ⌜ (self .to ≤ length (now queue)) × (self .from < self .to → getD (now queue) (self .from) 0 < 64) ⌝ }
         ensures { λ r. ⌜ r ≡ dueIn (now (queue .entry)) self ⌝ }
     {
         if self.left != 0 {
@@ -251,8 +251,7 @@ fn placed(side: u8) -> usize
 impl Sets {
     // A premise: the parts that keep their side take the place of the formula that was due, the others go to the end.
     fn premise(self, queue: &mut [u8], side: Side, p: Placing, f: u8, g: u8) -> Sets
-        requires { ⌜ (f < LETTERS + CONNECTIVES) × (g < LETTERS + CONNECTIVES) × (setOf side self + partBits side p f g < 2 ^ 64) ⌝ }
-        requires { ⌜ (self .left + partBits Side.Left p f g < 2 ^ 64) × (self .to + 2 ≤ length (now queue)) ⌝ }
+        requires { ⌜ (f < LETTERS + CONNECTIVES) × (g < LETTERS + CONNECTIVES) × (setOf side self + partBits side p f g < 2 ^ 64) × Takes (other side) p f g (length (now queue)) self ⌝ }
         ensures { λ r. ⌜ (r ≡ appended (other side) p f g (replaced side p f g self)) × (take (r .to) (now (queue .exit)) ≡ take (self .to) (now (queue .entry)) ++ partsWaiting (other side) p f g) ⌝ }
     {
         let away = side.other();
@@ -285,7 +284,7 @@ impl Sets {
 
     // The inner step: a running sequent through the tests, with the reductions left.
     fn step(self, nodes: &[u32], queue: &[u8], left: u64) -> Answer
-        requires { ⌜ (S : Sequent) × Runs (now nodes) (now queue) self S ⌝ }
+        requires { ⌜ ((S : Sequent) × Runs (now nodes) (now queue) self S) ⌝ }
         ensures { λ r. ⌜ ((S : Sequent) → Runs (now (nodes .entry)) (now (queue .entry)) self S → Took (now (nodes .entry)) (now (queue .entry)) left S r) ⌝ }
     {
         if self.leftmask & self.rightmask != 0 {
@@ -301,7 +300,7 @@ impl Sets {
 
 // The outcome of a running sequent, with the reductions left going in and coming out.
 fn run(nodes: &[u32], queue: &mut [u8], s: Sets, left: u64) -> Outcome
-    requires { ⌜ (S : Sequent) × Runs (now nodes) (now queue) s S ⌝ }
+    requires { ⌜ ((S : Sequent) × Runs (now nodes) (now queue) s S) ⌝ }
     ensures { λ r. ⌜ ((S : Sequent) → Runs (now (nodes .entry)) (now (queue .entry)) s S → r ≡ outcome left S) × (take (s .to) (now (queue .exit)) ≡ take (s .to) (now (queue .entry))) ⌝ }
 {
     let answer = s.step(nodes, queue, left);
@@ -316,11 +315,12 @@ fn run(nodes: &[u32], queue: &mut [u8], s: Sets, left: u64) -> Outcome
 
 // The first premise is finished, then the second is taken up.
 fn run_premises(nodes: &[u32], queue: &mut [u8], d: Reduction, left: u64) -> Outcome
-    requires { ⌜ (i : ℕ) × (x : Compound) × (S : Sequent) × Reduces (now nodes) (now queue) i x S d ⌝ }
+    requires { ⌜ ((i : ℕ) × (x : Compound) × (S : Sequent) × Reduces (now nodes) (now queue) i x S d) ⌝ }
     ensures { λ r. ⌜ ((i : ℕ) (x : Compound) (S : Sequent) → Reduces (now (nodes .entry)) (now (queue .entry)) i x S d → r ≡ pass outcome left (premises (d .side) i x S)) × (take (d .rest .to) (now (queue .exit)) ≡ take (d .rest .to) (now (queue .entry))) ⌝ }
 {
+    let side = d.side;
     let rule = d.rule;
-    let p = d.rest.premise(queue, d.side, rule.first, d.f, d.g);
+    let p = d.rest.premise(queue, side, rule.first, d.f, d.g);
     let o = run(nodes, queue, p, left);
     if rule.premises != 2 {
         return o;
@@ -328,7 +328,7 @@ fn run_premises(nodes: &[u32], queue: &mut [u8], d: Reduction, left: u64) -> Out
     let kind = o.kind;
     match kind {
         Kind::Theorem => {
-            let p = d.rest.premise(queue, d.side, rule.second, d.f, d.g);
+            let p = d.rest.premise(queue, side, rule.second, d.f, d.g);
             let v = run(nodes, queue, p, o.unspent);
             joined(o, v)
         }
@@ -341,5 +341,6 @@ fn joined(o: Outcome, v: Outcome) -> Outcome
     requires { ⌜ o .closings + v .closings < 2 ^ 64 ⌝ }
     ensures { λ r. ⌜ (r .kind ≡ v .kind) × (r .unspent ≡ v .unspent) × (r .closings ≡ o .closings + v .closings) ⌝ }
 {
-    Outcome { kind: v.kind, unspent: v.unspent, closings: o.closings + v.closings }
+    let kind = v.kind;
+    Outcome { kind: kind, unspent: v.unspent, closings: o.closings + v.closings }
 }

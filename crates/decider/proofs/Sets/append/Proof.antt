@@ -11,9 +11,9 @@ append-spec =
     tie.close
     (tie.spec
     (λ c. search needs)
-    (λ c κs. search needs)
+    (λ c κs. let s = c .before .before .before in (s .pre .0, s .pre .1, rw (c .enum-told .given .1) at (s .pre .2)))
     (λ c. search needs)
-    (λ c κs. search needs)
+    (λ c κs. let s = c .before .before .before .before in rw (c .before .enum-told2 .given .1) at (s .pre .2))
     (λ c.
     let a = c .before .before .before .before .args in
     rw (c .replace .ensures, c .before .enum-told .given .1) (refl, sym (append-nil (take (a .self .to) (a .queue .now)))))

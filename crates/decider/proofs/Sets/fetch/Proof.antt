@@ -1,6 +1,5 @@
 -- `decider::Sets::fetch` meets its contract. Assumes nothing.
 use mathlib.Core.Path.{_≡_, refl}
-use native.Mathlib.Nat.{le-refl}
 use native.Mathlib.Omega.{arith}
 use lib.ListN.{getD}
 use borrow.Author.Needs.{needs}
@@ -15,12 +14,12 @@ fetch-spec =
     (tie.spec
     (λ c. search needs)
     (λ c. let a = c .before .before .before .before .before .args in omega (arith, c .shared-slice-known .given (a .self .from)))
-    (λ c. let s = c .before .before .before .before .before in s .pre .1 (s .args .self .from) (le-refl _) (c .before .if2 .taken))
+    (λ c. let s = c .before .before .before .before .before in s .pre .1 (c .before .if2 .taken))
     (λ c. search needs)
     (λ c.
     let s = c .before .before .before .before .before in
     let a = s .args .self in
-    rw (eq-eqb (a .first) 0 (c .before .before .before .if1 .taken), lt-ltb (a .from) (a .to) (c .before .if2 .taken), shifted 64 (getD (s .args .queue .now) (a .from) 0) (s .pre .1 (a .from) (le-refl _) (c .before .if2 .taken))))
+    rw (eq-eqb (a .first) 0 (c .before .before .before .if1 .taken), lt-ltb (a .from) (a .to) (c .before .if2 .taken), shifted 64 (getD (s .args .queue .now) (a .from) 0) (s .pre .1 (c .before .if2 .taken))))
     (λ c.
     let a = c .before .before .before .before .args .self in
     rw (eq-eqb (a .first) 0 (c .before .before .if1 .taken), le-ltb (a .from) (a .to) (c .if2 .left)))

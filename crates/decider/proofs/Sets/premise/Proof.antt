@@ -7,15 +7,15 @@ use Rattle.calculus.proofs.Side.other.Reads as other-reads
 use Rattle.decider.proofs.Sets.append.Reads as append-reads
 use Rattle.decider.proofs.Sets.replace.Reads as replace-reads
 
--- src/lib.rt:258:13
+-- src/lib.rt:257:13
 other-requires : tie.Need-other-requires
 other-requires c κs = search needs
 
--- src/lib.rt:259:9
+-- src/lib.rt:258:9
 replace-requires : tie.Need-replace-requires
 replace-requires c κs = search needs
 
--- src/lib.rt:259:9
+-- src/lib.rt:258:9
 append-requires : tie.Need-append-requires
 append-requires c κs = ?
 
