@@ -4,3 +4,6 @@ pub mod States
 pub mod Lines
 pub mod Closing
 pub mod Naming
+pub mod Rows
+pub mod Founds
+pub mod Tests

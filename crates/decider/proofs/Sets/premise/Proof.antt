@@ -1,32 +1,24 @@
+-- `decider::Sets::premise` meets its contract. Assumes nothing.
+use mathlib.Core.Path.{_≡_, refl, sym, ap, _∙_}
 use borrow.Author.Needs.{needs}
+use lib.ListN.{length}
+use Rattle.decider.proofs.States.{takes-replaced, replaced-to}
 use Rattle.decider.proofs.Sets.premise.Statement.{statement}
 use Rattle.decider.proofs.Sets.premise.Tie as tie
-use Rattle.decider.proofs.Sets.premise.Reads as reads
-use Rattle.decider.proofs.Sets.premise.Lts as lts
-use Rattle.calculus.proofs.Side.other.Reads as other-reads
-use Rattle.decider.proofs.Sets.append.Reads as append-reads
-use Rattle.decider.proofs.Sets.replace.Reads as replace-reads
-
--- src/lib.rt:257:13
-other-requires : tie.Need-other-requires
-other-requires c κs = search needs
-
--- src/lib.rt:258:9
-replace-requires : tie.Need-replace-requires
-replace-requires c κs = search needs
-
--- src/lib.rt:258:9
-append-requires : tie.Need-append-requires
-append-requires c κs = ?
-
--- src/lib.rt:253:5
-same-length : tie.Need-same-length
-same-length c = search needs
-
--- src/lib.rt:253:5
-returns : tie.Need-returns
-returns c = ?
 
 pub premise-spec : {M : Type 1} → statement M
 premise-spec =
-    tie.close (tie.spec other-requires replace-requires append-requires same-length returns)
+    tie.close
+    (tie.spec
+    (λ c κs. search needs)
+    (λ c κs. search needs)
+    (λ c κs.
+    let s = c .before .before .before .before in
+    let a = s .args in
+    (s .pre .0, s .pre .1, rw (c .before .before .other .ensures, c .before .replace .ensures) (takes-replaced (a .side) (a .p) (a .f) (a .g) (length (a .queue .now)) (a .self) (s .pre .3))))
+    (λ c. search needs)
+    (λ c.
+    let a = c .before .before .before .before .before .before .before .args in
+    let r = c .before .before .before .before in
+    let h = rw (r .before .other .ensures, r .replace .ensures, replaced-to (a .side) (a .p) (a .f) (a .g) (a .self)) at (c .before .before .append .ensures .1) in
+    (c .before .before .append .ensures .0 ∙ rw (r .before .other .ensures, r .replace .ensures), h)))
