@@ -7,3 +7,4 @@ pub mod Naming
 pub mod Rows
 pub mod Founds
 pub mod Tests
+pub mod Passes

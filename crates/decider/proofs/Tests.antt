@@ -161,6 +161,7 @@ module _ (T Q : List ℕ) (s : Sets) (S : Sequent) (h : Runs T Q s S) (b : ℕ) 
             second = k .second ∙ reads z (d .side) n r f .2;
             size = omega (arith, o, sized z (d .side) n r f (d .rule) rows m refl);
             count = omega (arith, i, h .count, f .connectives);
+            small = omega (arith, i, h .small, f .connectives);
             waits = omega (arith, i, a, y .0, h .count, h .waits, f .connectives, f .to);
             room = omega (arith, o, k .room);
           },

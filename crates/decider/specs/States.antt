@@ -120,6 +120,7 @@ pub record Runs (T Q : List ℕ) (s : Sets) (S : Sequent) : Type 0 where
   pub shows : Shows T CONNECTIVES Q s S
   pub nodes : length T ≡ CONNECTIVES
   pub count : c S ≤ s .connectives
+  pub small : s .connectives ≤ CONNECTIVES
   pub waits : s .to + 2 * s .connectives ≤ length Q
   pub room : s .size ≤ ROOM
 
@@ -183,6 +184,7 @@ pub record Reduces (T Q : List ℕ) (i : ℕ) (x : Compound) (S : Sequent) (d : 
   pub second : d .g ≡ secondName number x
   pub size : d .rest .size + 1 ≡ size S + size (premiseOf (d .rule .first))
   pub count : c S ≤ d .rest .connectives + 1
+  pub small : d .rest .connectives ≤ CONNECTIVES
   pub waits : d .rest .to + 2 * d .rest .connectives + 2 ≤ length Q
   pub room : d .rest .size ≤ ROOM
 
