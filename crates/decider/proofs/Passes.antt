@@ -22,7 +22,7 @@ use Rattle.calculus.specs.Fold.{choose}
 use Rattle.calculus.specs.Limits.{ROOM, LETTERS, CONNECTIVES}
 use Rattle.calculus.specs.Syntax.{other, Formula, Compound, whole, Sequent, on-side, connectives, c, size}
 use Rattle.calculus.specs.Table.{splice, premises}
-use Rattle.calculus.specs.Tree.{letters, state, Event, close, reduce, closings, tree, spend, outcome, Inner, inner, andThen, pass, act}
+use Rattle.calculus.specs.Tree.{letters, state, Step, closed, opened, full, reduced, step, isDue, afford, Event, close, reduce, closings, tree, spend, outcome, Inner, inner, andThen, pass, act}
 use Rattle.calculus.proofs.Folds.{fold-append}
 use Rattle.calculus.proofs.Sequents.{Smaller, smaller}
 use Rattle.calculus.proofs.Bounds.{closings-bound, W-bound}
@@ -208,6 +208,17 @@ reduces-kept T Q R i x S d h e l = record {
 pub answered : (b : ℕ) (S : Sequent) (t : Inner) → inner b S ≡ t → act outcome b S t ≡ outcome b S
 answered b S t e = sym (outcome-step b S ∙ ap (act outcome b S) e)
 
+-- a reduction is due only while the budget lasts
+afford-due : (b : ℕ) (u : Step) (t : Side) (i : ℕ) (x : Compound) → afford b u ≡ isDue t i x → 1 ≤ b
+afford-due (suc b) u t i x e = omega arith
+afford-due zero (closed k) t i x e = let z : _≡_ {A = ℕ} 0 1 = cc in absurd (omega arith)
+afford-due zero (opened σ) t i x e = let z : _≡_ {A = ℕ} 0 1 = cc in absurd (omega arith)
+afford-due zero full t i x e = let z : _≡_ {A = ℕ} 0 1 = cc in absurd (omega arith)
+afford-due zero (reduced s j y) t i x e = let z : _≡_ {A = ℕ} 0 1 = cc in absurd (omega arith)
+
+pub due-left : (b : ℕ) (S : Sequent) (t : Side) (i : ℕ) (x : Compound) → inner b S ≡ isDue t i x → 1 ≤ b
+due-left b S t i x e = afford-due b (step S) t i x e
+
 closings-before : (b : ℕ) (es : List Event) → closingsBefore b es ≤ closings es
 closings-before b [] = omega arith
 closings-before b (close k ∷ es) = omega (arith, closings-before b es)
@@ -252,6 +263,13 @@ module _ (T Q : List ℕ) (i : ℕ) (x : Compound) (S : Sequent) (d : Reduction)
   second-runs a R s e k l =
       let w = rw (two a) at (smaller (d .side) i x S (h .lacks .due)) in
       premise-runs T Q i x S d h (d .rule .second) (rule .second a) R s e k l (rule .size a) (w .1 .0)
+
+  pub premise-kept : (p : Placing) (R P : List ℕ) (s : Sets) → s ≡ premised (d .side) p (d .f) (d .g) (d .rest)
+      → take (s .to) R ≡ take (d .rest .to) Q ++ partsWaiting (other (d .side)) p (d .f) (d .g) → take (s .to) P ≡ take (s .to) R → take (d .rest .to) P ≡ take (d .rest .to) Q
+  premise-kept p R P s e k l =
+      kept-before Q P (d .rest .to) (s .to) (partsWaiting (other (d .side)) p (d .f) (d .g))
+      (omega (arith, ap (λ (v : Sets). v .to) e, premised-to (d .side) p (d .f) (d .g) (d .rest)))
+      (omega (arith, h .waits)) (l ∙ k)
 
   pub first-asks : (d .f < LETTERS + CONNECTIVES) × (d .g < LETTERS + CONNECTIVES) × (setOf (d .side) (d .rest) + partBits (d .side) (d .rule .first) (d .f) (d .g) < 2 ^ 64)
       × Takes (other (d .side)) (d .rule .first) (d .f) (d .g) (length Q) (d .rest)

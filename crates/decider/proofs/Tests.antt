@@ -90,14 +90,14 @@ lacks-resized Right T Q n i x s S m h =
     }
 
 module _ (T Q : List ℕ) (s : Sets) (S : Sequent) (h : Runs T Q s S) (b : ℕ) where
-  pub took-closed : (bitAnd (s .leftmask) (s .rightmask) ≡ 0 → ⊥) → Took T Q b S Closed
+  pub took-closed : (bitAnd (s .leftmask) (s .rightmask) ≡ 0 → ⊥) → Took T Q s b S Closed
   took-closed n = let k = closed-by S (s .leftmask) (s .rightmask) (h .shows .leftmask) (h .shows .rightmask) n in (k .0, rw (k .1))
 
   module _ (z : bitAnd (s .leftmask) (s .rightmask) ≡ 0) where
     no-closing : closing S ≡ none
     no-closing = not-closed S (s .leftmask) (s .rightmask) (h .shows .leftmask) (h .shows .rightmask) z
 
-    pub took-open : first (S .on-left) ≡ missing → first (S .on-right) ≡ missing → Took T Q b S (Open (s .leftmask))
+    pub took-open : first (S .on-left) ≡ missing → first (S .on-right) ≡ missing → Took T Q s b S (Open (s .leftmask))
     took-open l r = rw (no-closing, l, r, h .shows .leftmask)
 
     module _ (t : Side) (n : ℕ) (r : Sets) (f : FoundAt T Q S t s n r) where
@@ -139,7 +139,7 @@ module _ (T Q : List ℕ) (s : Sets) (S : Sequent) (h : Runs T Q s S) (b : ℕ) 
         step-reduced l = here-test ∙ rw (within-full t (f .place) (f .compound) S u rows inside m sized l)
 
   module _ (z : bitAnd (s .leftmask) (s .rightmask) ≡ 0) (n : ℕ) (r : Sets) where
-    took-reduce : (d : Reduction) → FoundAt T Q S (d .side) s n r → Reduced (getD T n 0) (d .side) b r d → Took T Q b S (Reduce d)
+    took-reduce : (d : Reduction) → FoundAt T Q S (d .side) s n r → Reduced (getD T n 0) (d .side) b r d → Took T Q s b S (Reduce d)
     took-reduce d f k =
         let rows = k .rows (f .compound .connective) (sym (reads z (d .side) n r f .0)) in
         let m = r .size - 1 + size (premiseOf (d .rule .first)) in
@@ -165,13 +165,15 @@ module _ (T Q : List ℕ) (s : Sets) (S : Sequent) (h : Runs T Q s S) (b : ℕ) 
             waits = omega (arith, i, a, y .0, h .count, h .waits, f .connectives, f .to);
             room = omega (arith, o, k .room);
           },
+          omega (arith, i, y .0, h .count, f .connectives),
+          a ∙ f .to,
         )
       where
         afforded : (b : ℕ) → 1 ≤ b → afford b (reduced (d .side) (f .place) (f .compound)) ≡ isDue (d .side) (f .place) (f .compound)
         afforded zero l = absurd (omega arith)
         afforded (suc b) l = refl
 
-    pub took : (t : Side) → FoundAt T Q S t s n r → (a : Answer) → Reducing (getD T n 0) t b r a → Took T Q b S a
+    pub took : (t : Side) → FoundAt T Q S t s n r → (a : Answer) → Reducing (getD T n 0) t b r a → Took T Q s b S a
     took t f Closed k = absurd k
     took t f (Open σ) k = absurd k
     took t f Full (m, k, l) =

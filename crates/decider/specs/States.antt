@@ -189,12 +189,13 @@ pub record Reduces (T Q : List ℕ) (i : ℕ) (x : Compound) (S : Sequent) (d : 
   pub room : d .rest .size ≤ ROOM
 
 -- what the inner step answers, "by its own contract"
-abbrev pub Took : List ℕ → List ℕ → ℕ → Sequent → Answer → Type 0
-Took T Q b S Closed = (k : ℕ) × (inner b S ≡ isClosed k)
-Took T Q b S (Open σ) = inner b S ≡ isOpen σ
-Took T Q b S Full = inner b S ≡ isFull
-Took T Q b S Spent = inner b S ≡ isSpent
-Took T Q b S (Reduce d) = (i : ℕ) × (x : Compound) × (inner b S ≡ isDue (d .side) i x) × Reduces T Q i x S d
+abbrev pub Took : List ℕ → List ℕ → Sets → ℕ → Sequent → Answer → Type 0
+Took T Q s b S Closed = (k : ℕ) × (inner b S ≡ isClosed k)
+Took T Q s b S (Open σ) = inner b S ≡ isOpen σ
+Took T Q s b S Full = inner b S ≡ isFull
+Took T Q s b S Spent = inner b S ≡ isSpent
+Took T Q s b S (Reduce d) =
+    (i : ℕ) × (x : Compound) × (inner b S ≡ isDue (d .side) i x) × Reduces T Q i x S d × (d .rest .connectives + 1 ≡ s .connectives) × (d .rest .to ≡ s .to)
 
 -- ---- a reduction, by the node of its connective
 

@@ -285,7 +285,7 @@ impl Sets {
     // The inner step: a running sequent through the tests, with the reductions left.
     fn step(self, nodes: &[u32], queue: &[u8], left: u64) -> Answer
         requires { ⌜ ((S : Sequent) × Runs (now nodes) (now queue) self S) ⌝ }
-        ensures { λ r. ⌜ ((S : Sequent) → Runs (now (nodes .entry)) (now (queue .entry)) self S → Took (now (nodes .entry)) (now (queue .entry)) left S r) ⌝ }
+        ensures { λ r. ⌜ ((S : Sequent) → Runs (now (nodes .entry)) (now (queue .entry)) self S → Took (now (nodes .entry)) (now (queue .entry)) self left S r) ⌝ }
     {
         if self.leftmask & self.rightmask != 0 {
             return Answer::Closed;

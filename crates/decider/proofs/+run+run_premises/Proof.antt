@@ -1,4 +1,17 @@
-use Prim.Native.Nat.{ℕ, _<_}
+-- The run and its premises: both functions meet their contracts.
+-- The measure is twice the connective count of the running sequent, and one more where its tests are still to be made. Assumes nothing.
+use mathlib.Core.Path.{_≡_, refl, sym, ap, _∙_}
+use mathlib.Core.List.{[], _∷_}
+use types.Run.{miss}
+use native.Mathlib.Omega.{arith}
+use borrow.Author.Needs.{needs}
+use lib.ListN.{length, take}
+use Prim.Native.Nat.{ℕ, _+_, _*_, _<_, _≤_}
+use Rattle.calculus.specs.Syntax.{Compound, Sequent}
+use Rattle.calculus.specs.Tree.{outcome, Inner, isClosed, isOpen, isFull, isSpent, isDue}
+use Rattle.decider.specs.States.{Runs, Took, Reduces}
+use Rattle.decider.proofs.Passes.{premised-connectives, premise-kept, reduces-kept, due-left, answered, closings-small, first-runs, second-runs, first-asks, second-asks, pass-one, pass-stop, pass-two}
+use Rattle.decider.proofs.Rows.{premiseBy}
 use borrow.Fn.Kinds.{In}
 use borrow.Fn.PlainCycle.{Measures, is, falls, and}
 use Rattle.decider.proofs.run.Reads as run
@@ -14,10 +27,10 @@ use Rattle.decider.proofs.+run+run_premises.{statement}
 use Rattle.decider.proofs.+run+run_premises.Tie.{close}
 
 abbrev μ-run : Measures 2 run-kinds.ps ℕ
-μ-run κs a = ?
+μ-run κs a = 2 * a .1 .1 .0 .connectives + 1
 
 abbrev μ-run-premises : Measures 2 run-premises-kinds.ps ℕ
-μ-run-premises κs a = ?
+μ-run-premises κs a = 2 * a .1 .1 .0 .rest .connectives + 2
 
 abbrev run-at : ℕ → In 2 run-kinds.ps
 run-at t = and 2 run-kinds.ps (is 2 run-kinds.ps μ-run t) run.Pre
@@ -37,299 +50,38 @@ run-premises-below t =
     (falls 2 run-premises-kinds.ps _<_ μ-run-premises t)
     run-premises.Pre
 
--- src/lib.rt:306:9
-run-step-requires : (t : ℕ) → run-lts.Need-step-requires (
-  step-reads.Asked,
-  step-reads.Learnt,
-  run-premises-below t,
-  run-premises.Post,
-) (run-at t) run.Post
-run-step-requires t c κs = ?
+-- what the inner step said of a sequent
+abbrev Stepped : ℕ → Type 0
+Stepped t = run-lts.After-step (step-reads.Asked, step-reads.Learnt, run-premises-below t, run-premises.Post) (run-at t) run.Post
 
--- src/lib.rt:308:43
-run-enum-told : (t : ℕ) → run-lts.Need-enum-told (
-  step-reads.Asked,
-  step-reads.Learnt,
-  run-premises-below t,
-  run-premises.Post,
-) (run-at t) run.Post
-run-enum-told t c = ?
+-- after the first premise, and after the second
+abbrev Ran : ℕ → Type 0
+Ran t = run-premises-lts.After-run (premise-reads.Asked, premise-reads.Learnt, run-below t, run.Post, joined-reads.Asked, joined-reads.Learnt) (run-premises-at t) run-premises.Post
 
--- src/lib.rt:309:22
-run-enum-known-answer : (t : ℕ) → run-lts.Need-enum-known-answer (
-  step-reads.Asked,
-  step-reads.Learnt,
-  run-premises-below t,
-  run-premises.Post,
-) (run-at t) run.Post
-run-enum-known-answer t c = ?
+abbrev Again : ℕ → Type 0
+Again t = run-premises-lts.After-run2 (premise-reads.Asked, premise-reads.Learnt, run-below t, run.Post, joined-reads.Asked, joined-reads.Learnt) (run-premises-at t) run-premises.Post
 
--- src/lib.rt:310:41
-run-enum-told-2 : (t : ℕ) → run-lts.Need-enum-told-2 (
-  step-reads.Asked,
-  step-reads.Learnt,
-  run-premises-below t,
-  run-premises.Post,
-) (run-at t) run.Post
-run-enum-told-2 t c = ?
+module _ (t : ℕ) (c : Ran t) (i : ℕ) (x : Compound) (S : Sequent)
+    (h : Reduces (c .before .before .before .before .before .before .before .before .before .args .nodes .now) (c .before .before .before .before .before .before .before .before .before .args .queue .now) i x S (c .before .before .before .before .before .before .before .before .before .args .d)) where
+  runs-now : Runs (c .before .before .before .before .before .before .before .before .before .args .nodes .now) (c .before .before .before .before .premise .last .1 .0) (c .before .before .before .before .premise .result) (premiseBy (c .before .before .before .before .before .before .before .before .before .args .d .side) i x S (c .before .before .before .before .before .before .before .before .before .args .d .rule .first))
+  runs-now =
+      let a = c .before .before .before .before .before .before .before .before .before .args in
+      let p = c .before .before .before .before .premise in
+      first-runs (a .nodes .now) (a .queue .now) i x S (a .d) h (p .last .1 .0) (p .result) (p .ensures .0) (p .ensures .1) (p .kept .1 .0)
 
--- src/lib.rt:311:42
-run-enum-told-3 : (t : ℕ) → run-lts.Need-enum-told-3 (
-  step-reads.Asked,
-  step-reads.Learnt,
-  run-premises-below t,
-  run-premises.Post,
-) (run-at t) run.Post
-run-enum-told-3 t c = ?
+  first-now : c .run .result ≡ outcome (c .before .before .before .before .before .before .before .before .before .args .left) (premiseBy (c .before .before .before .before .before .before .before .before .before .args .d .side) i x S (c .before .before .before .before .before .before .before .before .before .args .d .rule .first))
+  first-now = c .run .ensures .0 (premiseBy (c .before .before .before .before .before .before .before .before .before .args .d .side) i x S (c .before .before .before .before .before .before .before .before .before .args .d .rule .first)) runs-now
 
--- src/lib.rt:312:24
-run-enum-known-answer-2 : (t : ℕ) → run-lts.Need-enum-known-answer-2 (
-  step-reads.Asked,
-  step-reads.Learnt,
-  run-premises-below t,
-  run-premises.Post,
-) (run-at t) run.Post
-run-enum-known-answer-2 t c = ?
+  kept-now : take (c .before .before .before .before .before .before .before .before .before .args .d .rest .to) (c .run .last .1 .0) ≡ take (c .before .before .before .before .before .before .before .before .before .args .d .rest .to) (c .before .before .before .before .before .before .before .before .before .args .queue .now)
+  kept-now =
+      let a = c .before .before .before .before .before .before .before .before .before .args in
+      let p = c .before .before .before .before .premise in
+      premise-kept (a .nodes .now) (a .queue .now) i x S (a .d) h (a .d .rule .first) (p .last .1 .0) (c .run .last .1 .0) (p .result) (p .ensures .0) (p .ensures .1) (c .run .ensures .1)
 
--- src/lib.rt:312:60
-run-sub-run-premises : (t : ℕ) → run-lts.Need-sub-run-premises (
-  step-reads.Asked,
-  step-reads.Learnt,
-  run-premises-below t,
-  run-premises.Post,
-) (run-at t) run.Post
-run-sub-run-premises t c = ?
-
--- src/lib.rt:312:30
-run-run-premises-requires : (t : ℕ) → run-lts.Need-run-premises-requires (
-  step-reads.Asked,
-  step-reads.Learnt,
-  run-premises-below t,
-  run-premises.Post,
-) (run-at t) run.Post
-run-run-premises-requires t c κs = ?
-
--- src/lib.rt:302:1
-run-same-length : (t : ℕ) → run-lts.Need-same-length (
-  step-reads.Asked,
-  step-reads.Learnt,
-  run-premises-below t,
-  run-premises.Post,
-) (run-at t) run.Post
-run-same-length t c = ?
-
--- src/lib.rt:302:1
-run-returns : (t : ℕ) → run-lts.Need-returns (
-  step-reads.Asked,
-  step-reads.Learnt,
-  run-premises-below t,
-  run-premises.Post,
-) (run-at t) run.Post
-run-returns t c = ?
-
--- src/lib.rt:302:1
-run-same-length-2 : (t : ℕ) → run-lts.Need-same-length-2 (
-  step-reads.Asked,
-  step-reads.Learnt,
-  run-premises-below t,
-  run-premises.Post,
-) (run-at t) run.Post
-run-same-length-2 t c = ?
-
--- src/lib.rt:302:1
-run-returns-2 : (t : ℕ) → run-lts.Need-returns-2 (
-  step-reads.Asked,
-  step-reads.Learnt,
-  run-premises-below t,
-  run-premises.Post,
-) (run-at t) run.Post
-run-returns-2 t c = ?
-
--- src/lib.rt:302:1
-run-same-length-3 : (t : ℕ) → run-lts.Need-same-length-3 (
-  step-reads.Asked,
-  step-reads.Learnt,
-  run-premises-below t,
-  run-premises.Post,
-) (run-at t) run.Post
-run-same-length-3 t c = ?
-
--- src/lib.rt:302:1
-run-returns-3 : (t : ℕ) → run-lts.Need-returns-3 (
-  step-reads.Asked,
-  step-reads.Learnt,
-  run-premises-below t,
-  run-premises.Post,
-) (run-at t) run.Post
-run-returns-3 t c = ?
-
--- src/lib.rt:302:1
-run-same-length-4 : (t : ℕ) → run-lts.Need-same-length-4 (
-  step-reads.Asked,
-  step-reads.Learnt,
-  run-premises-below t,
-  run-premises.Post,
-) (run-at t) run.Post
-run-same-length-4 t c = ?
-
--- src/lib.rt:302:1
-run-returns-4 : (t : ℕ) → run-lts.Need-returns-4 (
-  step-reads.Asked,
-  step-reads.Learnt,
-  run-premises-below t,
-  run-premises.Post,
-) (run-at t) run.Post
-run-returns-4 t c = ?
-
--- src/lib.rt:302:1
-run-same-length-5 : (t : ℕ) → run-lts.Need-same-length-5 (
-  step-reads.Asked,
-  step-reads.Learnt,
-  run-premises-below t,
-  run-premises.Post,
-) (run-at t) run.Post
-run-same-length-5 t c = ?
-
--- src/lib.rt:302:1
-run-returns-5 : (t : ℕ) → run-lts.Need-returns-5 (
-  step-reads.Asked,
-  step-reads.Learnt,
-  run-premises-below t,
-  run-premises.Post,
-) (run-at t) run.Post
-run-returns-5 t c = ?
-
--- src/lib.rt:323:9
-run-premises-premise-requires : (t : ℕ) → run-premises-lts.Need-premise-requires (
-  premise-reads.Asked,
-  premise-reads.Learnt,
-  run-below t,
-  run.Post,
-  joined-reads.Asked,
-  joined-reads.Learnt,
-) (run-premises-at t) run-premises.Post
-run-premises-premise-requires t c κs = ?
-
--- src/lib.rt:324:9
-run-premises-run-requires : (t : ℕ) → run-premises-lts.Need-run-requires (
-  premise-reads.Asked,
-  premise-reads.Learnt,
-  run-below t,
-  run.Post,
-  joined-reads.Asked,
-  joined-reads.Learnt,
-) (run-premises-at t) run-premises.Post
-run-premises-run-requires t c κs = ?
-
--- src/lib.rt:326:9
-run-premises-same-length : (t : ℕ) → run-premises-lts.Need-same-length (
-  premise-reads.Asked,
-  premise-reads.Learnt,
-  run-below t,
-  run.Post,
-  joined-reads.Asked,
-  joined-reads.Learnt,
-) (run-premises-at t) run-premises.Post
-run-premises-same-length t c = ?
-
--- src/lib.rt:326:9
-run-premises-returns : (t : ℕ) → run-premises-lts.Need-returns (
-  premise-reads.Asked,
-  premise-reads.Learnt,
-  run-below t,
-  run.Post,
-  joined-reads.Asked,
-  joined-reads.Learnt,
-) (run-premises-at t) run-premises.Post
-run-premises-returns t c = ?
-
--- src/lib.rt:331:36
-run-premises-enum-told : (t : ℕ) → run-premises-lts.Need-enum-told (
-  premise-reads.Asked,
-  premise-reads.Learnt,
-  run-below t,
-  run.Post,
-  joined-reads.Asked,
-  joined-reads.Learnt,
-) (run-premises-at t) run-premises.Post
-run-premises-enum-told t c = ?
-
--- src/lib.rt:331:17
-run-premises-premise-requires-2 : (t : ℕ) → run-premises-lts.Need-premise-requires-2 (
-  premise-reads.Asked,
-  premise-reads.Learnt,
-  run-below t,
-  run.Post,
-  joined-reads.Asked,
-  joined-reads.Learnt,
-) (run-premises-at t) run-premises.Post
-run-premises-premise-requires-2 t c κs = ?
-
--- src/lib.rt:332:17
-run-premises-run-requires-2 : (t : ℕ) → run-premises-lts.Need-run-requires-2 (
-  premise-reads.Asked,
-  premise-reads.Learnt,
-  run-below t,
-  run.Post,
-  joined-reads.Asked,
-  joined-reads.Learnt,
-) (run-premises-at t) run-premises.Post
-run-premises-run-requires-2 t c κs = ?
-
--- src/lib.rt:333:13
-run-premises-joined-requires : (t : ℕ) → run-premises-lts.Need-joined-requires (
-  premise-reads.Asked,
-  premise-reads.Learnt,
-  run-below t,
-  run.Post,
-  joined-reads.Asked,
-  joined-reads.Learnt,
-) (run-premises-at t) run-premises.Post
-run-premises-joined-requires t c κs = ?
-
--- src/lib.rt:317:1
-run-premises-same-length-2 : (t : ℕ) → run-premises-lts.Need-same-length-2 (
-  premise-reads.Asked,
-  premise-reads.Learnt,
-  run-below t,
-  run.Post,
-  joined-reads.Asked,
-  joined-reads.Learnt,
-) (run-premises-at t) run-premises.Post
-run-premises-same-length-2 t c = ?
-
--- src/lib.rt:317:1
-run-premises-returns-2 : (t : ℕ) → run-premises-lts.Need-returns-2 (
-  premise-reads.Asked,
-  premise-reads.Learnt,
-  run-below t,
-  run.Post,
-  joined-reads.Asked,
-  joined-reads.Learnt,
-) (run-premises-at t) run-premises.Post
-run-premises-returns-2 t c = ?
-
--- src/lib.rt:317:1
-run-premises-same-length-3 : (t : ℕ) → run-premises-lts.Need-same-length-3 (
-  premise-reads.Asked,
-  premise-reads.Learnt,
-  run-below t,
-  run.Post,
-  joined-reads.Asked,
-  joined-reads.Learnt,
-) (run-premises-at t) run-premises.Post
-run-premises-same-length-3 t c = ?
-
--- src/lib.rt:317:1
-run-premises-returns-3 : (t : ℕ) → run-premises-lts.Need-returns-3 (
-  premise-reads.Asked,
-  premise-reads.Learnt,
-  run-below t,
-  run.Post,
-  joined-reads.Asked,
-  joined-reads.Learnt,
-) (run-premises-at t) run-premises.Post
-run-premises-returns-3 t c = ?
+  again-now : Reduces (c .before .before .before .before .before .before .before .before .before .args .nodes .now) (c .run .last .1 .0) i x S (c .before .before .before .before .before .before .before .before .before .args .d)
+  again-now =
+      let a = c .before .before .before .before .before .before .before .before .before .args in
+      reduces-kept (a .nodes .now) (a .queue .now) (c .run .last .1 .0) i x S (a .d) h kept-now (c .run .kept .1 .0 ∙ c .before .before .before .before .premise .kept .1 .0)
 
 pub +run+run-premises-spec : {M : Type 1} → statement M
 +run+run-premises-spec = close μ-run μ-run-premises (λ t. run-lts.spec (
@@ -340,24 +92,38 @@ pub +run+run-premises-spec : {M : Type 1} → statement M
 )
     (run-at t)
     run.Post
-    (run-step-requires t)
-    (run-enum-told t)
-    (run-enum-known-answer t)
-    (run-enum-told-2 t)
-    (run-enum-told-3 t)
-    (run-enum-known-answer-2 t)
-    (run-sub-run-premises t)
-    (run-run-premises-requires t)
-    (run-same-length t)
-    (run-returns t)
-    (run-same-length-2 t)
-    (run-returns-2 t)
-    (run-same-length-3 t)
-    (run-returns-3 t)
-    (run-same-length-4 t)
-    (run-returns-4 t)
-    (run-same-length-5 t)
-    (run-returns-5 t))
+    (λ c κs. c .before .before .before .pre .1)
+    (λ c. search needs)
+    (λ c. search needs)
+    (λ c. search needs)
+    (λ c. search needs)
+    (λ c. search needs)
+    (λ c.
+    let s = c .before .before .before .before .before .before .before .before in
+    let w = rw (c .before .before .answer2 .given .1) at (c .before .before .before .before .step .ensures (s .pre .1 .0) (s .pre .1 .1)) in
+    due-left (s .args .left) (s .pre .1 .0) (c .before .before .answer2 .given .0 .0 .side) (w .0) (w .1) (w .2))
+    (λ c κs.
+    let s = c .before .before .before .before .before .before .before .before in
+    let w = rw (c .before .before .answer2 .given .1) at (c .before .before .before .before .step .ensures (s .pre .1 .0) (s .pre .1 .1)) in
+    (omega (arith, s .pre .0, w .4), (w .0, w .1, s .pre .1 .0, w .3)))
+    (λ c. search needs)
+    (λ c. (λ S h. let w = rw (c .enum-told .given .1) at (c .before .before .step .ensures S h) in answered (c .before .before .before .before .before .before .args .left) S (isClosed (w .0)) (w .1), refl))
+    (λ c. search needs)
+    (λ c. (λ S h. let w = rw (c .before .answer .given .1) at (c .before .before .before .step .ensures S h) in answered (c .before .before .before .before .before .before .before .args .left) S (isOpen (c .before .answer .given .0 .0)) w, refl))
+    (λ c. search needs)
+    (λ c. (λ S h. let w = rw (c .enum-told2 .given .1) at (c .before .before .step .ensures S h) in answered (c .before .before .before .before .before .before .args .left) S isFull w, refl))
+    (λ c. search needs)
+    (λ c. (λ S h. let w = rw (c .enum-told3 .given .1) at (c .before .before .step .ensures S h) in answered (c .before .before .before .before .before .before .args .left) S isSpent w, refl))
+    (λ c. search needs)
+    (λ c.
+    let s = c .before .before .before .before .before .before .before .before .before .before .before in
+    let r = c .before .before .run-premises in
+    let w₀ = rw (c .before .before .before .before .before .answer2 .given .1) at (c .before .before .before .before .before .before .before .step .ensures (s .pre .1 .0) (s .pre .1 .1)) in (
+      λ S h.
+        let w = rw (c .before .before .before .before .before .answer2 .given .1) at (c .before .before .before .before .before .before .before .step .ensures S h) in
+        r .ensures .0 (w .0) (w .1) S (w .3) ∙ answered (s .args .left) S (isDue (c .before .before .before .before .before .answer2 .given .0 .0 .side) (w .0) (w .1)) (w .2),
+      rw (w₀ .5) at (r .ensures .1),
+    )))
     λ t. run-premises-lts.spec (
       premise-reads.Asked,
       premise-reads.Learnt,
@@ -368,15 +134,18 @@ pub +run+run-premises-spec : {M : Type 1} → statement M
     )
     (run-premises-at t)
     run-premises.Post
-    (run-premises-premise-requires t)
-    (run-premises-run-requires t)
-    (run-premises-same-length t)
-    (run-premises-returns t)
-    (run-premises-enum-told t)
-    (run-premises-premise-requires-2 t)
-    (run-premises-run-requires-2 t)
-    (run-premises-joined-requires t)
-    (run-premises-same-length-2 t)
-    (run-premises-returns-2 t)
-    (run-premises-same-length-3 t)
-    (run-premises-returns-3 t)
+    (λ c κs.
+    let s = c .before .before .before .before in
+    let h = s .pre .1 in
+    first-asks (s .args .nodes .now) (s .args .queue .now) (h .0) (h .1) (h .2) (s .args .d) (h .3))
+    (λ c κs. ?)
+    (λ c. search needs)
+    (λ c. ?)
+    (λ c. search needs)
+    (λ c κs. ?)
+    (λ c κs. ?)
+    (λ c κs. ?)
+    (λ c. ?)
+    (λ c. ?)
+    (λ c. search needs)
+    (λ c. ?)
