@@ -8,3 +8,4 @@ pub mod Rows
 pub mod Founds
 pub mod Tests
 pub mod Passes
+pub mod Loading

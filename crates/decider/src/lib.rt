@@ -12,14 +12,15 @@ ghost use lib.Bits.{bitOr};
 ghost use lib.Dec.{eqb};
 ghost use lib.ListN.{length, take, drop, getD};
 ghost use Rattle.calculus.specs.Limits.{LETTERS, CONNECTIVES, ROOM};
-ghost use Rattle.calculus.specs.Syntax.{Compound, Sequent, other, size, connectives};
-ghost use Rattle.calculus.specs.Bytes.{question, Lettered};
+ghost use Rattle.calculus.specs.Syntax.{Compound, Sequent, on-side, other, size, connectives};
+ghost use Rattle.calculus.specs.Bytes.{question, Lettered, sideStart, startOf};
 ghost use Rattle.calculus.specs.Reading.{accepted, reading};
 ghost use Rattle.calculus.specs.Table.{premises};
 ghost use Rattle.calculus.specs.Tree.{outcome, pass};
 ghost use Rattle.question.specs.Positions.{Well, formulaAt, endOf};
 ghost use Rattle.sequent.specs.Rule.{sideCode, premiseOf};
 ghost use Rattle.decider.specs.Names.{name, node, Told, bitOf, lampOf, waiting};
+ghost use Rattle.decider.specs.Loads.{named, Numbered, Loads, Enters, entered, upTo};
 ghost use Rattle.decider.specs.States.{partBits, partLamps, partsWaiting, setOf, replaced, appended, fetched, lowest, dueIn, placedOf, Takes, Reducing, Shows, Runs, Reduces, Took};
 
 // The connectives of a question are numbered in the order of its bytes, and a compound formula is named by its connective.
@@ -343,4 +344,106 @@ fn joined(o: Outcome, v: Outcome) -> Outcome
 {
     let kind = v.kind;
     Outcome { kind: kind, unspent: v.unspent, closings: o.closings + v.closings }
+}
+
+// ---- the sets of a question
+
+// A formula's name, the position behind it and the number of the next connective.
+pub struct Named {
+    pub name: u8,
+    pub end: usize,
+    pub next: usize,
+}
+
+// The formulas so far, the position behind them and the number of the next connective.
+pub struct Loaded {
+    pub sets: Sets,
+    pub end: usize,
+    pub next: usize,
+}
+
+const EMPTY: Sets = Sets {
+    left: 0,
+    first: 0,
+    leftmask: 0,
+    rightmask: 0,
+    from: 0,
+    to: 0,
+    size: 0,
+    connectives: 48,
+};
+
+fn node(b: u8, f: u8, g: u8) -> u32
+    ensures { λ r. ⌜ r ≡ node b f g ⌝ }
+{
+    b as u32 + 256 * (f as u32) + 65536 * (g as u32)
+}
+
+fn name(n: usize) -> u8
+    requires { ⌜ n < CONNECTIVES ⌝ }
+    ensures { λ r. ⌜ r ≡ LETTERS + n ⌝ }
+{
+    LETTERS + n as u8
+}
+
+// Numbers the connectives of the formula at a position, from n on, and notes their nodes.
+fn number(q: &[u8], nodes: &mut [u32], at: usize, n: usize) -> Named
+    requires { ⌜ Well (now q) at × Lettered (formulaAt (now q) at) × (n + connectives (formulaAt (now q) at) ≤ CONNECTIVES) × (length (now nodes) ≡ CONNECTIVES) ⌝ }
+    ensures { λ r. ⌜ (r ≡ named (now (q .entry)) at n) × Numbered (now (q .entry)) at n (now (nodes .entry)) (now (nodes .exit)) ⌝ }
+{
+    let b = q[at];
+    if b == 1 {
+        return Named { name: q[at + 1], end: at + 2, next: n };
+    }
+    let f = number(q, nodes, at + 1, n + 1);
+    if b == 2 {
+        nodes[n] = node(b, f.name, f.name);
+        return Named { name: name(n), end: f.end, next: f.next };
+    }
+    let g = number(q, nodes, f.end, f.next);
+    nodes[n] = node(b, f.name, g.name);
+    Named { name: name(n), end: g.end, next: g.next }
+}
+
+// The next formula comes to the end of a side.
+fn enter(q: &[u8], nodes: &mut [u32], queue: &mut [u8], side: Side, l: Loaded) -> Loaded
+    requires { ⌜ ((S : Sequent) × Loads (now nodes) (now queue) l S × Enters (now q) l S) ⌝ }
+    ensures { λ r. ⌜ ((S : Sequent) → Loads (now (nodes .entry)) (now (queue .entry)) l S → Enters (now (q .entry)) l S → Loads (now (nodes .exit)) (now (queue .exit)) r (entered side (formulaAt (now (q .entry)) (l .end)) S)) × (r .end ≡ endOf (now (q .entry)) (l .end)) ⌝ }
+{
+    let f = number(q, nodes, l.end, l.next);
+    let p = Placing { f: side_code(side), g: 0 };
+    let mut s = l.sets.append(queue, side, p, f.name, f.name);
+    s.size = s.size + 1;
+    Loaded { sets: s, end: f.end, next: f.next }
+}
+
+// The formulas of a side of an accepted question, where that side starts.
+fn load(q: &[u8], nodes: &mut [u32], queue: &mut [u8], side: Side, start: Loaded) -> Loaded
+    requires { ⌜ (reading (now q) ≡ accepted) × (start .end ≡ sideStart side (question (now q))) × Loads (now nodes) (now queue) start (upTo side 0 (question (now q))) ⌝ }
+    ensures { λ r. ⌜ Loads (now (nodes .exit)) (now (queue .exit)) r (upTo side (length (on-side side (question (now (q .entry))))) (question (now (q .entry)))) × (r .end ≡ startOf side (length (on-side side (question (now (q .entry))))) (question (now (q .entry)))) ⌝ }
+{
+    let n = question::side_count(q, side, start.end);
+    let mut l = start;
+    let mut i = 0;
+    while i < n {
+        l = enter(q, nodes, queue, side, l);
+        i += 1;
+    }
+    l
+}
+
+// Decides an accepted question under a budget. The right side starts two bytes behind the left side's formulas.
+pub fn run_question(q: &[u8], budget: u64) -> Outcome
+    requires { ⌜ reading (now q) ≡ accepted ⌝ }
+    ensures { λ r. ⌜ r ≡ outcome budget (question (now (q .entry))) ⌝ }
+{
+    let mut nodes = [0u32; 48];
+    let mut queue = [0u8; 112];
+    let start = Loaded { sets: EMPTY, end: 2, next: 0 };
+    let left = load(q, &mut nodes, &mut queue, Side::Left, start);
+    let sets = left.sets;
+    let between = Loaded { sets: sets, end: left.end + 2, next: left.next };
+    let all = load(q, &mut nodes, &mut queue, Side::Right, between);
+    let s = all.sets;
+    run(&nodes, &mut queue, s, budget)
 }
