@@ -9,3 +9,4 @@ pub mod Founds
 pub mod Tests
 pub mod Passes
 pub mod Loading
+pub mod Entering

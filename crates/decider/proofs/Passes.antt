@@ -45,7 +45,7 @@ use Rattle.decider.proofs.Tests.{element-inside}
 
 -- ---- letters
 
-mask-append : (xs new : List Formula) (m k : ℕ) → m ≡ state (letters xs) → k ≡ state (letters new) → bitOr m k ≡ state (letters (xs ++ new))
+pub mask-append : (xs new : List Formula) (m k : ℕ) → m ≡ state (letters xs) → k ≡ state (letters new) → bitOr m k ≡ state (letters (xs ++ new))
 mask-append xs new m k e f = rw (e, f, state-fold xs, state-fold new) (sym (state-fold (xs ++ new) ∙ fold-append OR letterBit xs new))
 
 mask-splice : (xs new : List Formula) (i : ℕ) (x : Compound) (m k : ℕ) → getElem? xs i ≡ some (whole x) → m ≡ state (letters xs) → k ≡ state (letters new)
