@@ -153,6 +153,10 @@ module _ (T Q R P : List ℕ) (l : Loaded) (S : Sequent) (h : Loads T Q l S) (x 
       omega (arith, rising-bound R 0 (l .next + connectives x) (S .on-left ++ (x ∷ [])) (l .sets .left + (bitOf true (name (l .next) x) + 0)) more-left, pow-mono {j = CONNECTIVES} i)
   enter-fits Right i j = j
 
+pub appended-size : (u : Side) (p : Placing) (f g : ℕ) (s : Sets) → appended u p f g s .size ≡ s .size
+appended-size Left p f g s = refl
+appended-size Right p f g s = refl
+
 pub enter-name : (R : List ℕ) (n : ℕ) (x : Formula) → Told R n x → n + connectives x ≤ CONNECTIVES → name n x < LETTERS + CONNECTIVES
 enter-name R n x t h = name-small R n x t h
 
