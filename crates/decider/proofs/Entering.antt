@@ -230,6 +230,12 @@ module _ (q : List ℕ) (a : reading q ≡ accepted) where
     pub ends-next : endOf q (startOf u i (question q)) ≡ startOf u (i + 1) (question q)
     ends-next = rw (next-formula, add-one i) (omega (arith, bytes-next (on-side u (question q)) i h))
 
+  -- where the right side starts
+  pub right-starts : (e : ℕ) → e ≡ startOf Left (length (question q .on-left)) (question q) → e + 2 ≡ sideStart Right (question q)
+  right-starts e h =
+      let d : startOf Left (length (question q .on-left)) (question q) ≡ 2 + bytesAll (question q .on-left) = ap (λ (xs : List Formula). 2 + bytesAll xs) (take-length (question q .on-left)) in
+      omega arith
+
   -- all of it
   pub all-run : (T Q : List ℕ) (l : Loaded) → Loads T Q l (upTo Right (length (question q .on-right)) (question q)) → Runs T Q (l .sets) (question q)
   all-run T Q l h =
@@ -262,3 +268,18 @@ module _ (q : List ℕ) (a : reading q ≡ accepted) where
       let d : upTo Left (length (question q .on-left)) (question q) ≡ upTo Right 0 (question q) = λ j. record { on-left = take-length (question q .on-left) j; on-right = [] } in
       let k = rw d at h in
       record { shows = k .shows; nodes = k .nodes; queue = k .queue; next = k .next; count = k .count; to = k .to }
+
+-- nothing yet
+pub load-start : (T Q : List ℕ) (S : Sequent) → length T ≡ CONNECTIVES → length Q ≡ WAITING
+    → Loads T Q (record {
+      sets = record { left = 0; first = 0; leftmask = 0; rightmask = 0; from = 0; to = 0; size = 0; connectives = CONNECTIVES };
+      end = 2;
+      next = 0;
+    }) (upTo Left 0 S)
+load-start T Q S a b = record {
+      shows = record {
+        left = (refl, le-refl 0); front = []; back = []; right = refl; first = (refl, le-refl 0); queue = refl;
+        leftmask = refl; rightmask = refl; size = refl; order = le-refl 0;
+      };
+      nodes = a; queue = b; next = refl; count = refl; to = le-refl 0;
+    }
