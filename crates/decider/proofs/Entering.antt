@@ -47,13 +47,21 @@ module _ (T R : List ℕ) (e : ℕ) (h : (k : ℕ) → k < e → getD R k 0 ≡ 
   rising-same b (neg x ∷ xs) σ a =
       let o = rising-order T _ e xs (a .rest) (a .behind) in
       record {
-        number = a .number; rest = a .rest; from = a .from; told = told-same T R (a .number) (neg x) (λ k i j. h k (omega arith)) (a .told); split = a .split;
+        number = a .number;
+        rest = a .rest;
+        from = a .from;
+        told = told-same T R (a .number) (neg x) (λ k i j. h k (omega arith)) (a .told);
+        split = a .split;
         behind = rising-same _ xs (a .rest) (a .behind);
       }
   rising-same b (join s x y ∷ xs) σ a =
       let o = rising-order T _ e xs (a .rest) (a .behind) in
       record {
-        number = a .number; rest = a .rest; from = a .from; told = told-same T R (a .number) (join s x y) (λ k i j. h k (omega arith)) (a .told); split = a .split;
+        number = a .number;
+        rest = a .rest;
+        from = a .from;
+        told = told-same T R (a .number) (join s x y) (λ k i j. h k (omega arith)) (a .told);
+        split = a .split;
         behind = rising-same _ xs (a .rest) (a .behind);
       }
 
@@ -61,13 +69,21 @@ module _ (T R : List ℕ) (e : ℕ) (h : (k : ℕ) → k < e → getD R k 0 ≡ 
   lined-same d l [] ns a = a
   lined-same d l (letter k ∷ xs) ns a = lined-same d l xs ns a
   lined-same d l (neg x ∷ xs) ns a = record {
-        number = a .number; rest = a .rest; told = told-same T R (a .number) (neg x) (λ k i j. h k (omega (arith, a .inside))) (a .told);
-        inside = omega (arith, a .inside); split = a .split; behind = lined-same d l xs (a .rest) (a .behind);
-      }
+    number = a .number;
+    rest = a .rest;
+    told = told-same T R (a .number) (neg x) (λ k i j. h k (omega (arith, a .inside))) (a .told);
+    inside = omega (arith, a .inside);
+    split = a .split;
+    behind = lined-same d l xs (a .rest) (a .behind);
+  }
   lined-same d l (join s x y ∷ xs) ns a = record {
-        number = a .number; rest = a .rest; told = told-same T R (a .number) (join s x y) (λ k i j. h k (omega (arith, a .inside))) (a .told);
-        inside = omega (arith, a .inside); split = a .split; behind = lined-same d l xs (a .rest) (a .behind);
-      }
+    number = a .number;
+    rest = a .rest;
+    told = told-same T R (a .number) (join s x y) (λ k i j. h k (omega (arith, a .inside))) (a .told);
+    inside = omega (arith, a .inside);
+    split = a .split;
+    behind = lined-same d l xs (a .rest) (a .behind);
+  }
 
 -- ---- one more formula
 
@@ -77,8 +93,14 @@ alone t = record { f = sideCode t; g = 0 }
 abbrev pub grown : Sets → Sets
 grown s =
     record {
-      left = s .left; first = s .first; leftmask = s .leftmask; rightmask = s .rightmask;
-      from = s .from; to = s .to; size = s .size + 1; connectives = s .connectives;
+      left = s .left;
+      first = s .first;
+      leftmask = s .leftmask;
+      rightmask = s .rightmask;
+      from = s .from;
+      to = s .to;
+      size = s .size + 1;
+      connectives = s .connectives;
     }
 
 one-mask : (T : List ℕ) (n : ℕ) (x : Formula) → Told T n x → bitOr (lampOf true (name n x)) 0 ≡ state (letters (x ∷ []))
@@ -106,14 +128,22 @@ module _ (T Q R P : List ℕ) (l : Loaded) (S : Sequent) (h : Loads T Q l S) (x 
       let o : take (l .sets .to) P ≡ take (l .sets .to) Q = rw e at w ∙ append-nil (take (l .sets .to) Q) in
       rw e (record {
         shows = record {
-          left = more-left; front = v .front; back = v .back; right = v .right; first = first-set;
+          left = more-left;
+          front = v .front;
+          back = v .back;
+          right = v .right;
+          first = first-set;
           queue = rw o (lined-same T R (l .next) k (l .next + connectives x) (omega arith) (v .back) (drop (l .sets .from) (take (l .sets .to) Q)) (v .queue));
           leftmask = mask-append (S .on-left) (x ∷ []) (l .sets .leftmask) (bitOr (lampOf true (name (l .next) x)) 0) (v .leftmask) (one-mask R (l .next) x t);
           rightmask = v .rightmask;
           size = omega (arith, v .size, fold-append SUM (λ (y : Formula). 1) (S .on-left) (x ∷ []));
           order = v .order;
         };
-        nodes = r ∙ h .nodes; queue = p ∙ h .queue; next = omega (arith, h .next, fold-append SUM connectives (S .on-left) (x ∷ [])); count = h .count; to = h .to;
+        nodes = r ∙ h .nodes;
+        queue = p ∙ h .queue;
+        next = omega (arith, h .next, fold-append SUM connectives (S .on-left) (x ∷ []));
+        count = h .count;
+        to = h .to;
       })
 
   enter-right : (s : Sets) → s ≡ appended Right (alone Right) (name (l .next) x) (name (l .next) x) (l .sets) → l .sets .to ≤ length Q
@@ -124,12 +154,14 @@ module _ (T Q R P : List ℕ) (l : Loaded) (S : Sequent) (h : Loads T Q l S) (x 
       let W = waiting true (name (l .next) x) ++ [] in
       let o : take (l .sets .to + length W) P ≡ take (l .sets .to) Q ++ W = rw e at w in
       let d : drop (l .sets .from) (take (l .sets .to + length W) P) ≡ drop (l .sets .from) (take (l .sets .to) Q) ++ W
-            = ap (drop (l .sets .from)) o ∙ drop-append-le (l .sets .from) (take (l .sets .to) Q) W (omega (arith, length-take (l .sets .to) Q, v .order)) in
+      = ap (drop (l .sets .from)) o ∙ drop-append-le (l .sets .from) (take (l .sets .to) Q) W (omega (arith, length-take (l .sets .to) Q, v .order)) in
       let a = lined-same T R (l .next) k (l .next + connectives x) (omega arith) (v .back) (drop (l .sets .from) (take (l .sets .to) Q)) (v .queue) in
       let b : Lined R (l .next + connectives x) (x ∷ []) W = rw (append-nil (waiting true (name (l .next) x))) (keep-lined R (l .next) (l .next + connectives x) x t (le-refl _) true) in
       rw e (record {
         shows = record {
-          left = left-set; front = v .front; back = v .back ++ (x ∷ []);
+          left = left-set;
+          front = v .front;
+          back = v .back ++ (x ∷ []);
           right = ap (λ (ys : List Formula). ys ++ (x ∷ [])) (v .right) ∙ append-assoc (v .front) (v .back) (x ∷ []);
           first = first-set;
           queue = rw d (lined-append R (l .next + connectives x) (v .back) (x ∷ []) (drop (l .sets .from) (take (l .sets .to) Q)) W a b);
@@ -138,7 +170,10 @@ module _ (T Q R P : List ℕ) (l : Loaded) (S : Sequent) (h : Loads T Q l S) (x 
           size = omega (arith, v .size, fold-append SUM (λ (y : Formula). 1) (S .on-right) (x ∷ []));
           order = omega (arith, v .order);
         };
-        nodes = r ∙ h .nodes; queue = p ∙ h .queue; next = omega (arith, h .next, fold-append SUM connectives (S .on-right) (x ∷ [])); count = h .count;
+        nodes = r ∙ h .nodes;
+        queue = p ∙ h .queue;
+        next = omega (arith, h .next, fold-append SUM connectives (S .on-right) (x ∷ []));
+        count = h .count;
         to = omega (arith, h .to, length-append (S .on-right) (x ∷ []), length-append (waiting true (name (l .next) x)) [], waiting-short true (name (l .next) x));
       })
 
@@ -213,12 +248,12 @@ module _ (q : List ℕ) (a : reading q ≡ accepted) where
 
     pub enters : (l : Loaded) → l .end ≡ startOf u i (question q) → Enters q l (upTo u i (question q))
     enters l e = record {
-          well = rw e (place-well q a u i h);
-          lettered = rw (e, next-formula) next-lettered;
-          fits = rw (e, next-formula) (next-fits .0);
-          few = next-fits .1;
-          size = next-fits .2;
-        }
+      well = rw e (place-well q a u i h);
+      lettered = rw (e, next-formula) next-lettered;
+      fits = rw (e, next-formula) (next-fits .0);
+      few = next-fits .1;
+      size = next-fits .2;
+    }
 
     pub entered-next : entered u (formulaAt q (startOf u i (question q))) (upTo u i (question q)) ≡ upTo u (i + 1) (question q)
     entered-next = rw (next-formula, add-one i) (go u h)
@@ -246,10 +281,15 @@ module _ (q : List ℕ) (a : reading q ≡ accepted) where
       record {
         shows = record {
           left = rising-wider T 0 0 (l .next) CONNECTIVES (question q .on-left) (l .sets .left) (le-refl 0) n (v .left);
-          front = v .front; back = v .back; right = v .right;
+          front = v .front;
+          back = v .back;
+          right = v .right;
           first = rising-wider T 0 0 (l .next) CONNECTIVES (v .front) (l .sets .first) (le-refl 0) n (v .first);
           queue = lined-same T T (l .next) (λ j i. refl) CONNECTIVES n (v .back) (drop (l .sets .from) (take (l .sets .to) Q)) (v .queue);
-          leftmask = v .leftmask; rightmask = v .rightmask; size = v .size; order = v .order;
+          leftmask = v .leftmask;
+          rightmask = v .rightmask;
+          size = v .size;
+          order = v .order;
         };
         nodes = k .nodes;
         count = omega (arith, k .count, within .connectives);
@@ -277,9 +317,21 @@ pub load-start : (T Q : List ℕ) (S : Sequent) → length T ≡ CONNECTIVES →
       next = 0;
     }) (upTo Left 0 S)
 load-start T Q S a b = record {
-      shows = record {
-        left = (refl, le-refl 0); front = []; back = []; right = refl; first = (refl, le-refl 0); queue = refl;
-        leftmask = refl; rightmask = refl; size = refl; order = le-refl 0;
-      };
-      nodes = a; queue = b; next = refl; count = refl; to = le-refl 0;
-    }
+  shows = record {
+    left = (refl, le-refl 0);
+    front = [];
+    back = [];
+    right = refl;
+    first = (refl, le-refl 0);
+    queue = refl;
+    leftmask = refl;
+    rightmask = refl;
+    size = refl;
+    order = le-refl 0;
+  };
+  nodes = a;
+  queue = b;
+  next = refl;
+  count = refl;
+  to = le-refl 0;
+}

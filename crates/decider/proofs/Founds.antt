@@ -92,17 +92,31 @@ module _ (T Q : List ℕ) (S : Sequent) where
         let f = lead (S .on-left) (s .left) (h .left) n in
         let l = taken (S .on-left) (s .left) (f .0) (f .1) (f .3) in
         let d : dueIn Q s ≡ At Left (f .3 .number) (record {
-              left = f .3 .rest; first = s .first; leftmask = s .leftmask; rightmask = s .rightmask;
-              from = s .from; to = s .to; size = s .size; connectives = s .connectives;
-            }) = rw (ne-eqb (s .left) 0 n, l .1, l .0) in
+          left = f .3 .rest;
+          first = s .first;
+          leftmask = s .leftmask;
+          rightmask = s .rightmask;
+          from = s .from;
+          to = s .to;
+          size = s .size;
+          connectives = s .connectives;
+        }) = rw (ne-eqb (s .left) 0 n, l .1, l .0) in
         rw d (record {
-          place = f .0; compound = f .1; test = rw (f .2);
+          place = f .0;
+          compound = f .1;
+          test = rw (f .2);
           lacks = record {
             place = record { led = f .3 .led; front = h .front; back = h .back; right = h .right; first = h .first; queue = h .queue };
             due = element (S .on-left) (f .0) (f .1) (f .2);
-            told = f .3 .told; inside = l .2; leftmask = h .leftmask; rightmask = h .rightmask; order = h .order;
+            told = f .3 .told;
+            inside = l .2;
+            leftmask = h .leftmask;
+            rightmask = h .rightmask;
+            order = h .order;
           };
-          size = refl; connectives = refl; to = refl;
+          size = refl;
+          connectives = refl;
+          to = refl;
         })
 
   -- on the right, with the first that waited fetched
@@ -114,18 +128,32 @@ module _ (T Q : List ℕ) (S : Sequent) where
         let f = lead front (r .first) a n in
         let l = taken front (r .first) (f .0) (f .1) (f .3) in
         let d : dueRight r ≡ At Right (f .3 .number) (record {
-              left = r .left; first = f .3 .rest; leftmask = r .leftmask; rightmask = r .rightmask;
-              from = r .from; to = r .to; size = r .size; connectives = r .connectives;
-            }) = rw (ne-eqb (r .first) 0 n, l .1, l .0) in
+          left = r .left;
+          first = f .3 .rest;
+          leftmask = r .leftmask;
+          rightmask = r .rightmask;
+          from = r .from;
+          to = r .to;
+          size = r .size;
+          connectives = r .connectives;
+        }) = rw (ne-eqb (r .first) 0 n, l .1, l .0) in
         let p : first (S .on-right) ≡ here (f .0) (f .1) = ap first w ∙ first-front front back (f .0) (f .1) (f .2) in
         rw d (record {
-          place = f .0; compound = f .1; test = rw (no-lead (S .on-left) z, p);
+          place = f .0;
+          compound = f .1;
+          test = rw (no-lead (S .on-left) z, p);
           lacks = record {
             place = record { left = rising-empty T 0 CONNECTIVES (S .on-left) z 0 0 (le-refl 0); none = e; front = front; back = back; right = w; led = f .3 .led; queue = q };
             due = element (S .on-right) (f .0) (f .1) p;
-            told = f .3 .told; inside = l .2; leftmask = m; rightmask = k; order = o;
+            told = f .3 .told;
+            inside = l .2;
+            leftmask = m;
+            rightmask = k;
+            order = o;
           };
-          size = i; connectives = j; to = u;
+          size = i;
+          connectives = j;
+          to = u;
         })
 
   module _ (s : Sets) (h : Shows T CONNECTIVES Q s S) (l : s .to ≤ length Q) (e : s .left ≡ 0) where
@@ -142,9 +170,15 @@ module _ (T Q : List ℕ) (S : Sequent) where
         let n = getD Q (s .from) 0 in
         let g = lined-fetch T CONNECTIVES (h .back) n (drop (s .from + 1) (take (s .to) Q)) (rw (queue-first Q (s .from) (s .to) o l) at (h .queue)) in
         let r : Sets = record {
-              left = s .left; first = 2 ^ n; leftmask = s .leftmask; rightmask = s .rightmask;
-              from = s .from + 1; to = s .to; size = s .size; connectives = s .connectives;
-            } in
+          left = s .left;
+          first = 2 ^ n;
+          leftmask = s .leftmask;
+          rightmask = s .rightmask;
+          from = s .from + 1;
+          to = s .to;
+          size = s .size;
+          connectives = s .connectives;
+        } in
         let f : fetched Q s ≡ r = rw (eq-eqb (s .first) 0 z, lt-ltb (s .from) (s .to) o) in
         let c : Rising T 0 CONNECTIVES (h .front) 0 = rw z at (h .first) in
         rw f

@@ -26,13 +26,21 @@ pub rising-wider : (T : List ℕ) (a b e d : ℕ) (xs : List Formula) (σ : ℕ)
 rising-wider T a b e d [] σ i j h = (h .0, omega (arith, h .1))
 rising-wider T a b e d (letter k ∷ xs) σ i j h = rising-wider T a b e d xs σ i j h
 rising-wider T a b e d (neg x ∷ xs) σ i j h = record {
-      number = h .number; rest = h .rest; from = omega (arith, h .from); told = h .told; split = h .split;
-      behind = rising-wider T _ _ e d xs (h .rest) (le-refl _) j (h .behind);
-    }
+  number = h .number;
+  rest = h .rest;
+  from = omega (arith, h .from);
+  told = h .told;
+  split = h .split;
+  behind = rising-wider T _ _ e d xs (h .rest) (le-refl _) j (h .behind);
+}
 rising-wider T a b e d (join o x y ∷ xs) σ i j h = record {
-      number = h .number; rest = h .rest; from = omega (arith, h .from); told = h .told; split = h .split;
-      behind = rising-wider T _ _ e d xs (h .rest) (le-refl _) j (h .behind);
-    }
+  number = h .number;
+  rest = h .rest;
+  from = omega (arith, h .from);
+  told = h .told;
+  split = h .split;
+  behind = rising-wider T _ _ e d xs (h .rest) (le-refl _) j (h .behind);
+}
 
 pub rising-append : (T : List ℕ) (b m e : ℕ) (xs ys : List Formula) (σ ρ : ℕ) → Rising T b m xs σ → Rising T m e ys ρ → Rising T b e (xs ++ ys) (σ + ρ)
 rising-append T b m e [] ys σ ρ h k =
@@ -40,13 +48,21 @@ rising-append T b m e [] ys σ ρ h k =
     rw z (rising-wider T b m e e ys ρ (h .1) (le-refl e) k)
 rising-append T b m e (letter l ∷ xs) ys σ ρ h k = rising-append T b m e xs ys σ ρ h k
 rising-append T b m e (neg x ∷ xs) ys σ ρ h k = record {
-      number = h .number; rest = h .rest + ρ; from = h .from; told = h .told; split = omega (arith, h .split);
-      behind = rising-append T _ m e xs ys (h .rest) ρ (h .behind) k;
-    }
+  number = h .number;
+  rest = h .rest + ρ;
+  from = h .from;
+  told = h .told;
+  split = omega (arith, h .split);
+  behind = rising-append T _ m e xs ys (h .rest) ρ (h .behind) k;
+}
 rising-append T b m e (join o x y ∷ xs) ys σ ρ h k = record {
-      number = h .number; rest = h .rest + ρ; from = h .from; told = h .told; split = omega (arith, h .split);
-      behind = rising-append T _ m e xs ys (h .rest) ρ (h .behind) k;
-    }
+  number = h .number;
+  rest = h .rest + ρ;
+  from = h .from;
+  told = h .told;
+  split = omega (arith, h .split);
+  behind = rising-append T _ m e xs ys (h .rest) ρ (h .behind) k;
+}
 
 -- letters alone
 pub rising-empty : (T : List ℕ) (b e : ℕ) (xs : List Formula) → Rising T b e xs 0 → (a d : ℕ) → a ≤ d → Rising T a d xs 0
@@ -125,17 +141,29 @@ rising-first T b e (letter k ∷ xs) σ h = go (first xs) (rising-first T b e xs
     go : (o : First) → Firsts T b e xs σ o → Firsts T b e (letter k ∷ xs) σ (later o)
     go missing f = f
     go (here i x) f = record {
-          number = f .number; rest = f .rest; from = f .from; told = f .told; split = f .split;
-          led = record { before = f .led .before; inside = omega (arith, f .led .inside); behind = f .led .behind };
-        }
+      number = f .number;
+      rest = f .rest;
+      from = f .from;
+      told = f .told;
+      split = f .split;
+      led = record { before = f .led .before; inside = omega (arith, f .led .inside); behind = f .led .behind };
+    }
 rising-first T b e (neg x ∷ xs) σ h = record {
-      number = h .number; rest = h .rest; from = h .from; told = h .told; split = h .split;
-      led = record { before = (refl, omega arith); inside = omega arith; behind = h .behind };
-    }
+  number = h .number;
+  rest = h .rest;
+  from = h .from;
+  told = h .told;
+  split = h .split;
+  led = record { before = (refl, omega arith); inside = omega arith; behind = h .behind };
+}
 rising-first T b e (join o x y ∷ xs) σ h = record {
-      number = h .number; rest = h .rest; from = h .from; told = h .told; split = h .split;
-      led = record { before = (refl, omega arith); inside = omega arith; behind = h .behind };
-    }
+  number = h .number;
+  rest = h .rest;
+  from = h .from;
+  told = h .told;
+  split = h .split;
+  led = record { before = (refl, omega arith); inside = omega arith; behind = h .behind };
+}
 
 -- others take its place
 pub rising-splice : (T : List ℕ) (n e : ℕ) (x : Compound) (i : ℕ) (xs new : List Formula) (ρ κ : ℕ) → Led T n e x i xs ρ
@@ -175,13 +203,21 @@ pub lined-append : (T : List ℕ) (e : ℕ) (xs ys : List Formula) (ns ms : List
 lined-append T e [] ys ns ms h k = rw h k
 lined-append T e (letter l ∷ xs) ys ns ms h k = lined-append T e xs ys ns ms h k
 lined-append T e (neg x ∷ xs) ys ns ms h k = record {
-      number = h .number; rest = h .rest ++ ms; told = h .told; inside = h .inside; split = rw (h .split);
-      behind = lined-append T e xs ys (h .rest) ms (h .behind) k;
-    }
+  number = h .number;
+  rest = h .rest ++ ms;
+  told = h .told;
+  inside = h .inside;
+  split = rw (h .split);
+  behind = lined-append T e xs ys (h .rest) ms (h .behind) k;
+}
 lined-append T e (join o x y ∷ xs) ys ns ms h k = record {
-      number = h .number; rest = h .rest ++ ms; told = h .told; inside = h .inside; split = rw (h .split);
-      behind = lined-append T e xs ys (h .rest) ms (h .behind) k;
-    }
+  number = h .number;
+  rest = h .rest ++ ms;
+  told = h .told;
+  inside = h .inside;
+  split = rw (h .split);
+  behind = lined-append T e xs ys (h .rest) ms (h .behind) k;
+}
 
 pub lined-none : (T : List ℕ) (e : ℕ) (xs : List Formula) → Lined T e xs [] → first xs ≡ missing
 lined-none T e [] h = refl
@@ -207,13 +243,21 @@ lined-fetch T e (neg x ∷ xs) n ns h =
     let a : n ≡ h .number = cc (h .split) in
     let b : ns ≡ h .rest = cc (h .split) in
     rw (a, b) (record {
-      front = neg x ∷ []; back = xs; whole = refl; inside = omega (arith, h .inside);
-      first = record { number = h .number; rest = 0; from = omega arith; told = h .told; split = omega arith; behind = (refl, h .inside) }; queue = h .behind;
+      front = neg x ∷ [];
+      back = xs;
+      whole = refl;
+      inside = omega (arith, h .inside);
+      first = record { number = h .number; rest = 0; from = omega arith; told = h .told; split = omega arith; behind = (refl, h .inside) };
+      queue = h .behind;
     })
 lined-fetch T e (join o x y ∷ xs) n ns h =
     let a : n ≡ h .number = cc (h .split) in
     let b : ns ≡ h .rest = cc (h .split) in
     rw (a, b) (record {
-      front = join o x y ∷ []; back = xs; whole = refl; inside = omega (arith, h .inside);
-      first = record { number = h .number; rest = 0; from = omega arith; told = h .told; split = omega arith; behind = (refl, h .inside) }; queue = h .behind;
+      front = join o x y ∷ [];
+      back = xs;
+      whole = refl;
+      inside = omega (arith, h .inside);
+      first = record { number = h .number; rest = 0; from = omega arith; told = h .told; split = omega arith; behind = (refl, h .inside) };
+      queue = h .behind;
     })

@@ -102,8 +102,7 @@ told-same T R n (join o x y) h t = (
 module _ (q : List ℕ) (at n : ℕ) (h : Well q at) (T : List ℕ) where
   pub number-letter : getD q at 0 ≡ 1 → Lettered (formulaAt q at) → (record { name = getD q (at + 1) 0; end = at + 2; next = n } ≡ named q at n) × Numbered q at n T T
   number-letter e l =
-      let a = letter-here q at h e in
-      (
+      let a = letter-here q at h e in (
         (λ i. record { name = sym (ap (name n) (a .stands)) i; end = sym (a .ends) i; next = (sym (add-zero n) ∙ sym (ap (λ (x : Formula). n + connectives x) (a .stands))) i }),
         record { told = rw (a .stands) (rw (a .stands) at l); kept = λ k i. refl },
       )
@@ -116,8 +115,7 @@ module _ (q : List ℕ) (at n : ℕ) (h : Well q at) (T : List ℕ) where
         let x = formulaAt q (at + 1) in
         let w = node b (f .name) (f .name) in
         let y : f .name ≡ name (n + 1) x = ap (λ (v : Named). v .name) e in
-        let p : n + 1 + connectives x ≡ n + connectives (neg x) = omega arith in
-        (
+        let p : n + 1 + connectives x ≡ n + connectives (neg x) = omega arith in (
           (λ k. record {
             name = (j ∙ sym (ap (name n) (d .stands))) k;
             end = (ap (λ (v : Named). v .end) e ∙ d .ends) k;
@@ -146,8 +144,7 @@ module _ (q : List ℕ) (at n : ℕ) (h : Well q at) (T : List ℕ) where
         let r′ : Numbered q (endOf q (at + 1)) (n + 1 + connectives x) R P = rw (e₁, e₂) at r in
         let p : n + 1 + connectives x + connectives y ≡ n + connectives (join (d .o) x y) = omega arith in
         let t : g .name ≡ name (n + 1 + connectives x) y = ap (λ (z : Named). z .name) v′ in
-        let c : b ≡ code (CONNECTIVE (two (d .o))) = i ∙ d .byte in
-        (
+        let c : b ≡ code (CONNECTIVE (two (d .o))) = i ∙ d .byte in (
           (λ k. record {
             name = (j ∙ sym (ap (name n) (d .stands))) k;
             end = (ap (λ (z : Named). z .end) v′ ∙ d .ends) k;

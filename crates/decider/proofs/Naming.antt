@@ -83,10 +83,10 @@ node-told T n x t h = go (x .connective) refl t h
         let a = name-small T (n + 1) (x .f) (t .1) (omega arith) in
         record { node = rw e (t .0); first = a; second = rw e a }
     go (two b) e t h = record {
-          node = rw e (t .0);
-          first = name-small T (n + 1) (x .f) (t .1) (omega arith);
-          second = rw e (name-small T (n + 1 + connectives (x .f)) (x .g) (t .2) (omega arith));
-        }
+      node = rw e (t .0);
+      first = name-small T (n + 1) (x .f) (t .1) (omega arith);
+      second = rw e (name-small T (n + 1 + connectives (x .f)) (x .g) (t .2) (omega arith));
+    }
 
 -- the code reads the names off the node
 pub node-read : (b f g w : ℕ) → b < 256 → f < LETTERS + CONNECTIVES → g < LETTERS + CONNECTIVES → w ≡ node b f g

@@ -95,7 +95,7 @@ module _ (T Q : List ℕ) (n i : ℕ) (x : Compound) (s : Sets) (S : Sequent) (p
       let ks = partsOn Left p (x .f) (x .g) in
       let ms = partsOn Right p (x .f) (x .g) in
       let d : drop (s .from) (take (s .to + length (partsWaiting Right p (firstName n x) (secondName n x))) R) ≡ drop (s .from) (take (s .to) Q) ++ partsWaiting Right p (firstName n x) (secondName n x)
-            = ap (drop (s .from)) e ∙ drop-append-le (s .from) (take (s .to) Q) (partsWaiting Right p (firstName n x) (secondName n x)) (omega (arith, length-take (s .to) Q, h .order)) in
+      = ap (drop (s .from)) e ∙ drop-append-le (s .from) (take (s .to) Q) (partsWaiting Right p (firstName n x) (secondName n x)) (omega (arith, length-take (s .to) Q, h .order)) in
       record {
         left = rising-splice T n CONNECTIVES x i (S .on-left) ks (s .left) (partBits Left p (firstName n x) (secondName n x)) (l .led) (parts-rising T n x (h .told) p q Left);
         front = l .front;
@@ -187,21 +187,40 @@ lacks-kept Left T Q R n i x s S e h =
     let p = h .place in
     record {
       place = record { led = p .led; front = p .front; back = p .back; right = p .right; first = p .first; queue = rw e (p .queue) };
-      due = h .due; told = h .told; inside = h .inside; leftmask = h .leftmask; rightmask = h .rightmask; order = h .order;
+      due = h .due;
+      told = h .told;
+      inside = h .inside;
+      leftmask = h .leftmask;
+      rightmask = h .rightmask;
+      order = h .order;
     }
 lacks-kept Right T Q R n i x s S e h =
     let p = h .place in
     record {
       place = record { left = p .left; none = p .none; front = p .front; back = p .back; right = p .right; led = p .led; queue = rw e (p .queue) };
-      due = h .due; told = h .told; inside = h .inside; leftmask = h .leftmask; rightmask = h .rightmask; order = h .order;
+      due = h .due;
+      told = h .told;
+      inside = h .inside;
+      leftmask = h .leftmask;
+      rightmask = h .rightmask;
+      order = h .order;
     }
 
 pub reduces-kept : (T Q R : List ℕ) (i : ℕ) (x : Compound) (S : Sequent) (d : Reduction) → Reduces T Q i x S d → take (d .rest .to) R ≡ take (d .rest .to) Q
     → length R ≡ length Q → Reduces T R i x S d
 reduces-kept T Q R i x S d h e l = record {
-      number = h .number; lacks = lacks-kept (d .side) T Q R (h .number) i x (d .rest) S e (h .lacks); nodes = h .nodes; rows = h .rows;
-      first = h .first; second = h .second; size = h .size; count = h .count; small = h .small; waits = omega (arith, h .waits); room = h .room;
-    }
+  number = h .number;
+  lacks = lacks-kept (d .side) T Q R (h .number) i x (d .rest) S e (h .lacks);
+  nodes = h .nodes;
+  rows = h .rows;
+  first = h .first;
+  second = h .second;
+  size = h .size;
+  count = h .count;
+  small = h .small;
+  waits = omega (arith, h .waits);
+  room = h .room;
+}
 
 -- ---- outcomes
 
@@ -277,7 +296,7 @@ module _ (T Q : List ℕ) (i : ℕ) (x : Compound) (S : Sequent) (d : Reduction)
 
   pub second-asks : d .rule .premises ≡ 2
       → (d .f < LETTERS + CONNECTIVES) × (d .g < LETTERS + CONNECTIVES) × (setOf (d .side) (d .rest) + partBits (d .side) (d .rule .second) (d .f) (d .g) < 2 ^ 64)
-          × Takes (other (d .side)) (d .rule .second) (d .f) (d .g) (length Q) (d .rest)
+      × Takes (other (d .side)) (d .rule .second) (d .f) (d .g) (length Q) (d .rest)
   second-asks a = premise-asks T Q i x S d h (d .rule .second) (rule .second a)
 
   module _ (b : ℕ) (o : Outcome) (e : o ≡ outcome b (premiseBy (d .side) i x S (d .rule .first))) where

@@ -20,8 +20,14 @@ module _ (Q : List ℕ) (s r : Sets) (e : s .left ≡ 0) (f : r ≡ fetched Q s)
 
   pub due-right : (r .first ≡ 0 → ⊥) → (n v : ℕ) → n ≡ lowest (r .first) → v ≡ r .first - 2 ^ n
       → At Right n (record {
-        left = r .left; first = v; leftmask = r .leftmask; rightmask = r .rightmask;
-        from = r .from; to = r .to; size = r .size; connectives = r .connectives;
+        left = r .left;
+        first = v;
+        leftmask = r .leftmask;
+        rightmask = r .rightmask;
+        from = r .from;
+        to = r .to;
+        size = r .size;
+        connectives = r .connectives;
       }) ≡ dueIn Q s
   due-right h n v i j = rw (j, i) (rw (ne-eqb (r .first) 0 h) at due-fetched)
 

@@ -80,13 +80,23 @@ lacks-resized Left T Q n i x s S m h =
     let p = h .place in
     record {
       place = record { led = p .led; front = p .front; back = p .back; right = p .right; first = p .first; queue = p .queue };
-      due = h .due; told = h .told; inside = h .inside; leftmask = h .leftmask; rightmask = h .rightmask; order = h .order;
+      due = h .due;
+      told = h .told;
+      inside = h .inside;
+      leftmask = h .leftmask;
+      rightmask = h .rightmask;
+      order = h .order;
     }
 lacks-resized Right T Q n i x s S m h =
     let p = h .place in
     record {
       place = record { left = p .left; none = p .none; front = p .front; back = p .back; right = p .right; led = p .led; queue = p .queue };
-      due = h .due; told = h .told; inside = h .inside; leftmask = h .leftmask; rightmask = h .rightmask; order = h .order;
+      due = h .due;
+      told = h .told;
+      inside = h .inside;
+      leftmask = h .leftmask;
+      rightmask = h .rightmask;
+      order = h .order;
     }
 
 module _ (T Q : List ℕ) (s : Sets) (S : Sequent) (h : Runs T Q s S) (b : ℕ) where

@@ -49,13 +49,25 @@ setOf Right s = s .first
 abbrev pub replaced : Side → Placing → ℕ → ℕ → Sets → Sets
 replaced Left p f g s =
     record {
-      left = s .left + partBits Left p f g; first = s .first; leftmask = bitOr (s .leftmask) (partLamps Left p f g); rightmask = s .rightmask;
-      from = s .from; to = s .to; size = s .size; connectives = s .connectives;
+      left = s .left + partBits Left p f g;
+      first = s .first;
+      leftmask = bitOr (s .leftmask) (partLamps Left p f g);
+      rightmask = s .rightmask;
+      from = s .from;
+      to = s .to;
+      size = s .size;
+      connectives = s .connectives;
     }
 replaced Right p f g s =
     record {
-      left = s .left; first = s .first + partBits Right p f g; leftmask = s .leftmask; rightmask = bitOr (s .rightmask) (partLamps Right p f g);
-      from = s .from; to = s .to; size = s .size; connectives = s .connectives;
+      left = s .left;
+      first = s .first + partBits Right p f g;
+      leftmask = s .leftmask;
+      rightmask = bitOr (s .rightmask) (partLamps Right p f g);
+      from = s .from;
+      to = s .to;
+      size = s .size;
+      connectives = s .connectives;
     }
 
 -- they go to its end
@@ -63,8 +75,14 @@ abbrev pub appended : Side → Placing → ℕ → ℕ → Sets → Sets
 appended Left p f g s = replaced Left p f g s
 appended Right p f g s =
     record {
-      left = s .left; first = s .first; leftmask = s .leftmask; rightmask = bitOr (s .rightmask) (partLamps Right p f g);
-      from = s .from; to = s .to + length (partsWaiting Right p f g); size = s .size; connectives = s .connectives;
+      left = s .left;
+      first = s .first;
+      leftmask = s .leftmask;
+      rightmask = bitOr (s .rightmask) (partLamps Right p f g);
+      from = s .from;
+      to = s .to + length (partsWaiting Right p f g);
+      size = s .size;
+      connectives = s .connectives;
     }
 
 -- there is room for them at a side's end
@@ -75,9 +93,15 @@ Takes Right p f g n s = s .to + 2 ≤ n
 -- the first that waits comes to the right's set, if that is empty
 abbrev pub fetched : List ℕ → Sets → Sets
 fetched Q s = choose (eqb (s .first) 0) (choose (ltb (s .from) (s .to)) (record {
-      left = s .left; first = 2 ^ getD Q (s .from) 0; leftmask = s .leftmask; rightmask = s .rightmask;
-      from = s .from + 1; to = s .to; size = s .size; connectives = s .connectives;
-    }) s) s
+  left = s .left;
+  first = 2 ^ getD Q (s .from) 0;
+  leftmask = s .leftmask;
+  rightmask = s .rightmask;
+  from = s .from + 1;
+  to = s .to;
+  size = s .size;
+  connectives = s .connectives;
+}) s) s
 
 abbrev pub lowest : ℕ → ℕ
 lowest σ = trailingZeros 64 σ
@@ -86,13 +110,25 @@ lowest σ = trailingZeros 64 σ
 abbrev pub without : Side → Sets → Sets
 without Left s =
     record {
-      left = s .left - 2 ^ lowest (s .left); first = s .first; leftmask = s .leftmask; rightmask = s .rightmask;
-      from = s .from; to = s .to; size = s .size; connectives = s .connectives;
+      left = s .left - 2 ^ lowest (s .left);
+      first = s .first;
+      leftmask = s .leftmask;
+      rightmask = s .rightmask;
+      from = s .from;
+      to = s .to;
+      size = s .size;
+      connectives = s .connectives;
     }
 without Right s =
     record {
-      left = s .left; first = s .first - 2 ^ lowest (s .first); leftmask = s .leftmask; rightmask = s .rightmask;
-      from = s .from; to = s .to; size = s .size; connectives = s .connectives;
+      left = s .left;
+      first = s .first - 2 ^ lowest (s .first);
+      leftmask = s .leftmask;
+      rightmask = s .rightmask;
+      from = s .from;
+      to = s .to;
+      size = s .size;
+      connectives = s .connectives;
     }
 
 abbrev pub dueRight : Sets → Due
@@ -206,8 +242,14 @@ placedOf k = choose (eqb k 1) 1 (choose (eqb k 2) 1 0)
 abbrev pub resized : ℕ → Sets → Sets
 resized n s =
     record {
-      left = s .left; first = s .first; leftmask = s .leftmask; rightmask = s .rightmask;
-      from = s .from; to = s .to; size = n; connectives = s .connectives - 1;
+      left = s .left;
+      first = s .first;
+      leftmask = s .leftmask;
+      rightmask = s .rightmask;
+      from = s .from;
+      to = s .to;
+      size = n;
+      connectives = s .connectives - 1;
     }
 
 pub record Reduced (w : ℕ) (t : Side) (b : ℕ) (s : Sets) (d : Reduction) : Type 0 where

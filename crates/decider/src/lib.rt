@@ -4,7 +4,6 @@ use calculus::Outcome;
 use calculus::Side;
 use sequent::Placing;
 use sequent::Rule;
-
 ghost use mathlib.Core.Path.{_≡_};
 ghost use mathlib.Core.List.{[], _++_};
 ghost use Prim.Native.Nat.{ℕ, _+_, _-_, _*_, _%_, _^_, _≤_, _<_};
@@ -306,10 +305,26 @@ fn run(nodes: &[u32], queue: &mut [u8], s: Sets, left: u64) -> Outcome
 {
     let answer = s.step(nodes, queue, left);
     match answer {
-        Answer::Closed => Outcome { kind: Kind::Theorem, unspent: left, closings: 1 },
-        Answer::Open(state) => Outcome { kind: Kind::Refuted(state), unspent: left, closings: 0 },
-        Answer::Full => Outcome { kind: Kind::Full, unspent: left, closings: 0 },
-        Answer::Spent => Outcome { kind: Kind::Spent, unspent: left, closings: 0 },
+        Answer::Closed => Outcome {
+            kind: Kind::Theorem,
+            unspent: left,
+            closings: 1,
+        },
+        Answer::Open(state) => Outcome {
+            kind: Kind::Refuted(state),
+            unspent: left,
+            closings: 0,
+        },
+        Answer::Full => Outcome {
+            kind: Kind::Full,
+            unspent: left,
+            closings: 0,
+        },
+        Answer::Spent => Outcome {
+            kind: Kind::Spent,
+            unspent: left,
+            closings: 0,
+        },
         Answer::Reduce(d) => run_premises(nodes, queue, d, left - 1),
     }
 }
@@ -343,7 +358,11 @@ fn joined(o: Outcome, v: Outcome) -> Outcome
     ensures { λ r. ⌜ (r .kind ≡ v .kind) × (r .unspent ≡ v .unspent) × (r .closings ≡ o .closings + v .closings) ⌝ }
 {
     let kind = v.kind;
-    Outcome { kind: kind, unspent: v.unspent, closings: o.closings + v.closings }
+    Outcome {
+        kind: kind,
+        unspent: v.unspent,
+        closings: o.closings + v.closings,
+    }
 }
 
 // ---- the sets of a question
@@ -393,16 +412,28 @@ fn number(q: &[u8], nodes: &mut [u32], at: usize, n: usize) -> Named
 {
     let b = q[at];
     if b == 1 {
-        return Named { name: q[at + 1], end: at + 2, next: n };
+        return Named {
+            name: q[at + 1],
+            end: at + 2,
+            next: n,
+        };
     }
     let f = number(q, nodes, at + 1, n + 1);
     if b == 2 {
         nodes[n] = node(b, f.name, f.name);
-        return Named { name: name(n), end: f.end, next: f.next };
+        return Named {
+            name: name(n),
+            end: f.end,
+            next: f.next,
+        };
     }
     let g = number(q, nodes, f.end, f.next);
     nodes[n] = node(b, f.name, g.name);
-    Named { name: name(n), end: g.end, next: g.next }
+    Named {
+        name: name(n),
+        end: g.end,
+        next: g.next,
+    }
 }
 
 // The next formula comes to the end of a side.
@@ -411,10 +442,17 @@ fn enter(q: &[u8], nodes: &mut [u32], queue: &mut [u8], side: Side, l: Loaded) -
     ensures { λ r. ⌜ ((S : Sequent) → Loads (now (nodes .entry)) (now (queue .entry)) l S → Enters (now (q .entry)) l S → Loads (now (nodes .exit)) (now (queue .exit)) r (entered side (formulaAt (now (q .entry)) (l .end)) S)) × (r .end ≡ endOf (now (q .entry)) (l .end)) ⌝ }
 {
     let f = number(q, nodes, l.end, l.next);
-    let p = Placing { f: side_code(side), g: 0 };
+    let p = Placing {
+        f: side_code(side),
+        g: 0,
+    };
     let mut s = l.sets.append(queue, side, p, f.name, f.name);
     s.size = s.size + 1;
-    Loaded { sets: s, end: f.end, next: f.next }
+    Loaded {
+        sets: s,
+        end: f.end,
+        next: f.next,
+    }
 }
 
 // The formulas of a side of an accepted question, where that side starts.
@@ -439,10 +477,18 @@ pub fn run_question(q: &[u8], budget: u64) -> Outcome
 {
     let mut nodes = [0u32; 48];
     let mut queue = [0u8; 112];
-    let start = Loaded { sets: EMPTY, end: 2, next: 0 };
+    let start = Loaded {
+        sets: EMPTY,
+        end: 2,
+        next: 0,
+    };
     let left = load(q, &mut nodes, &mut queue, Side::Left, start);
     let sets = left.sets;
-    let between = Loaded { sets: sets, end: left.end + 2, next: left.next };
+    let between = Loaded {
+        sets: sets,
+        end: left.end + 2,
+        next: left.next,
+    };
     let all = load(q, &mut nodes, &mut queue, Side::Right, between);
     let s = all.sets;
     run(&nodes, &mut queue, s, budget)

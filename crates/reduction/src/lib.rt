@@ -3,7 +3,6 @@ use calculus::Side;
 use sequent::Placing;
 use sequent::Rule;
 use sequent::Running;
-
 ghost use mathlib.Core.Path.{_≡_};
 ghost use mathlib.Core.List.{map};
 ghost use Prim.Native.Nat.{ℕ, _+_, _≤_, _<_};

@@ -59,7 +59,7 @@ module _ (t : Side) (s : Running) (size : length (s .items) ≡ ROOM) (at : ℕ)
       let one = set old (slotOf t at) x in
       let z : length one ≡ ROOM = length-set old (slotOf t at) x ∙ size′ in
       let w : lane t (set one (slotOf t (at + 1)) y) ≡ set (set (lane t old) at x) (at + 1) y
-          = slot-set one z (at + 1) (omega (arith, sides t s)) t y ∙ ap (λ (l : List ℕ). set l (at + 1) y) (slot-set old size′ at (omega (arith, sides t s)) t x) in
+      = slot-set one z (at + 1) (omega (arith, sides t s)) t y ∙ ap (λ (l : List ℕ). set l (at + 1) y) (slot-set old size′ at (omega (arith, sides t s)) t x) in
       changed t s (set one (slotOf t (at + 1)) y) (splice at (x ∷ y ∷ []) (view t s)) (countOf t s + 1) m
       (ap (take (countOf t s + 1)) w ∙ splice-two (lane t old) (lane t (s .items)) at (countOf t s) x y h (omega (arith, sides t s, lane-length t old)) (o .kept) (o .moved))
       (omega (arith, splice-length (view t s) (x ∷ y ∷ []) at (omega (arith, held)), held))
@@ -96,7 +96,7 @@ module _ (t : Side) (s : Running) (size : length (s .items) ≡ ROOM) where
       let one = set (s .items) (slotOf t n) x in
       let z : length one ≡ ROOM = length-set (s .items) (slotOf t n) x ∙ size in
       let w : lane t (set one (slotOf t (n + 1)) y) ≡ set (set (lane t (s .items)) n x) (n + 1) y
-          = slot-set one z (n + 1) (omega (arith, sides t s)) t y ∙ ap (λ (l : List ℕ). set l (n + 1) y) (slot-set (s .items) size n (omega (arith, sides t s)) t x) in
+      = slot-set one z (n + 1) (omega (arith, sides t s)) t y ∙ ap (λ (l : List ℕ). set l (n + 1) y) (slot-set (s .items) size n (omega (arith, sides t s)) t x) in
       changed t s (set one (slotOf t (n + 1)) y) (view t s ++ (x ∷ y ∷ [])) (n + 2) m
       (ap (take (n + 2)) w ∙ end-two (lane t (s .items)) n x y (omega (arith, sides t s, lane-length t (s .items))))
       (omega (arith, held-all (omega arith), length-append (view t s) (x ∷ y ∷ [])))

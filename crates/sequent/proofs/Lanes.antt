@@ -117,16 +117,16 @@ module _ (t : Side) (at n : ℕ) (room : n < ROOM) (old : List ℕ) (size : leng
       let L₀ = lane t old in
       let e : i - 1 + 1 ≡ i = omega arith in
       let x : getD new (slotOf t (i - 1)) 0 ≡ getD L₀ (i - 1) 0
-          = slot-get new (o .size) (i - 1) (omega (arith, o .high)) t ∙ same-at (i - 1) i L L₀ (omega arith) (o .kept) in
+      = slot-get new (o .size) (i - 1) (omega (arith, o .high)) t ∙ same-at (i - 1) i L L₀ (omega arith) (o .kept) in
       let w : lane t (set new (slotOf t i) (getD new (slotOf t (i - 1)) 0)) ≡ set L i (getD L₀ (i - 1) 0)
-          = slot-set new (o .size) i (omega (arith, o .high)) t (getD new (slotOf t (i - 1)) 0) ∙ ap (set L i) x in
+      = slot-set new (o .size) i (omega (arith, o .high)) t (getD new (slotOf t (i - 1)) 0) ∙ ap (set L i) x in
       let k : length L ≡ ROOM = lane-length t new ∙ o .size in
       let k₀ : length L₀ ≡ ROOM = lane-length t old ∙ size in
       let first : drop i (take (n + 1) (set L i (getD L₀ (i - 1) 0))) ≡ getD L₀ (i - 1) 0 ∷ drop i (take n L₀)
-          = opened (set L i (getD L₀ (i - 1) 0)) i (n + 1) (omega (arith, o .high)) (omega (arith, length-set L i (getD L₀ (i - 1) 0)))
-          ∙ rw (getD-set-same L i (getD L₀ (i - 1) 0) 0 (omega (arith, o .high)), drop-stored L i (n + 1) (getD L₀ (i - 1) 0) (omega (arith, o .high)), o .moved) in
+      = opened (set L i (getD L₀ (i - 1) 0)) i (n + 1) (omega (arith, o .high)) (omega (arith, length-set L i (getD L₀ (i - 1) 0)))
+      ∙ rw (getD-set-same L i (getD L₀ (i - 1) 0) 0 (omega (arith, o .high)), drop-stored L i (n + 1) (getD L₀ (i - 1) 0) (omega (arith, o .high)), o .moved) in
       let second : drop (i - 1) (take n L₀) ≡ getD L₀ (i - 1) 0 ∷ drop i (take n L₀)
-          = opened L₀ (i - 1) n (omega (arith, o .high)) (omega arith) ∙ ap (λ (j : ℕ). getD L₀ (i - 1) 0 ∷ drop j (take n L₀)) e in
+      = opened L₀ (i - 1) n (omega (arith, o .high)) (omega arith) ∙ ap (λ (j : ℕ). getD L₀ (i - 1) 0 ∷ drop j (take n L₀)) e in
       record {
         size = length-set new (slotOf t i) _ ∙ o .size;
         low = omega arith;
@@ -174,13 +174,13 @@ module _ (t : Side) (at n : ℕ) (room : n ≤ ROOM) (old : List ℕ) (size : le
       let k : length L ≡ ROOM = lane-length t new ∙ o .size in
       let k₀ : length L₀ ≡ ROOM = lane-length t old ∙ size in
       let z : getD L i 0 ≡ getD L₀ i 0
-          = ap (λ (j : ℕ). getD L j 0) (sym (add-zero i)) ∙ sym (getD-drop i L 0 0) ∙ ap (λ (w : List ℕ). getD w 0 0) (o .rest) ∙ getD-drop i L₀ 0 0 ∙ ap (λ (j : ℕ). getD L₀ j 0) (add-zero i) in
+      = ap (λ (j : ℕ). getD L j 0) (sym (add-zero i)) ∙ sym (getD-drop i L 0 0) ∙ ap (λ (w : List ℕ). getD w 0 0) (o .rest) ∙ getD-drop i L₀ 0 0 ∙ ap (λ (j : ℕ). getD L₀ j 0) (add-zero i) in
       let x : getD new (slotOf t i) 0 ≡ getD L₀ i 0 = slot-get new (o .size) i (omega arith) t ∙ z in
       let w : lane t (set new (slotOf t (i - 1)) (getD new (slotOf t i) 0)) ≡ set L (i - 1) (getD L₀ i 0)
-          = slot-set new (o .size) (i - 1) (omega arith) t (getD new (slotOf t i) 0) ∙ ap (set L (i - 1)) x in
+      = slot-set new (o .size) (i - 1) (omega arith) t (getD new (slotOf t i) 0) ∙ ap (set L (i - 1)) x in
       let y : take (i + 1) L₀ ≡ take i L₀ ++ (getD L₀ i 0 ∷ []) = rw (add-one i) (take-suc L₀ i 0 (omega arith)) in
       let d : drop (at + 1) (take (i + 1) L₀) ≡ drop (at + 1) (take i L₀) ++ (getD L₀ i 0 ∷ [])
-          = rw y (drop-append-le (at + 1) (take i L₀) (getD L₀ i 0 ∷ []) (omega (arith, o .low, length-take i L₀))) in
+      = rw y (drop-append-le (at + 1) (take i L₀) (getD L₀ i 0 ∷ []) (omega (arith, o .low, length-take i L₀))) in
       record {
         size = length-set new (slotOf t (i - 1)) _ ∙ o .size;
         low = omega (arith, o .low);
@@ -209,14 +209,14 @@ splice-two l old at n x y h k kept moved =
     let X = take (n + 1) l in
     let f : length X ≡ n + 1 = omega (arith, length-take (n + 1) l) in
     let a : take (n + 1) (set (set l at x) (at + 1) y) ≡ set (set X at x) (at + 1) y
-        = take-set-lt (n + 1) (set l at x) (at + 1) y (omega arith) ∙ ap (λ (w : List ℕ). set w (at + 1) y) (take-set-lt (n + 1) l at x (omega arith)) in
+    = take-set-lt (n + 1) (set l at x) (at + 1) y (omega arith) ∙ ap (λ (w : List ℕ). set w (at + 1) y) (take-set-lt (n + 1) l at x (omega arith)) in
     let b : set (set X at x) (at + 1) y ≡ take (at + 1) (set X at x) ++ (y ∷ drop (suc (at + 1)) (set X at x))
-        = set-split (set X at x) (at + 1) y (omega (arith, length-set X at x)) in
+    = set-split (set X at x) (at + 1) y (omega (arith, length-set X at x)) in
     let d : take (at + 1) (set X at x) ≡ take at X ++ (x ∷ []) = rw (add-one at) (take-suc-set X at x (omega arith)) in
     let e : drop (suc (at + 1)) (set X at x) ≡ drop (at + 1) (take n old)
-        = drop-set-lt (suc (at + 1)) X at x (omega arith) ∙ ap (λ (j : ℕ). drop j X) (two-more at) ∙ moved in
+    = drop-set-lt (suc (at + 1)) X at x (omega arith) ∙ ap (λ (j : ℕ). drop j X) (two-more at) ∙ moved in
     let g : take at X ≡ take at (take n old)
-        = take-take at (n + 1) l (omega arith) ∙ shorter at (at + 1) l old (omega arith) kept ∙ sym (take-take at n old (omega arith)) in
+    = take-take at (n + 1) l (omega arith) ∙ shorter at (at + 1) l old (omega arith) kept ∙ sym (take-take at n old (omega arith)) in
     a ∙ b ∙ rw (d, e, g, add-one at) (append-assoc (take at (take n old)) (x ∷ []) (y ∷ drop (suc at) (take n old)))
   where
     two-more : (n : ℕ) → suc (n + 1) ≡ n + 2

@@ -163,13 +163,13 @@ other-other Right = refl
 places-premise : (s r : Running) (p : Placing) (f g at : ℕ) (t : Side) → view t r ≡ splice at (partsOn t p f g) (view t s)
     → view (other t) r ≡ view (other t) s ++ partsOn (other t) p f g → places r ≡ premise t at (places s) (placed p f g)
 places-premise s r p f g at Left h k = λ i. record {
-      on-left = (h ∙ ap (λ (ps : List ℕ). splice at ps (view Left s)) (sym (on-left (partsOn Left p f g) (partsOn Right p f g)))) i;
-      on-right = (k ∙ ap (λ (ps : List ℕ). view Right s ++ ps) (sym (on-right (partsOn Left p f g) (partsOn Right p f g)))) i;
-    }
+  on-left = (h ∙ ap (λ (ps : List ℕ). splice at ps (view Left s)) (sym (on-left (partsOn Left p f g) (partsOn Right p f g)))) i;
+  on-right = (k ∙ ap (λ (ps : List ℕ). view Right s ++ ps) (sym (on-right (partsOn Left p f g) (partsOn Right p f g)))) i;
+}
 places-premise s r p f g at Right h k = λ i. record {
-      on-left = (k ∙ ap (λ (ps : List ℕ). view Left s ++ ps) (sym (on-left (partsOn Left p f g) (partsOn Right p f g)))) i;
-      on-right = (h ∙ ap (λ (ps : List ℕ). splice at ps (view Right s)) (sym (on-right (partsOn Left p f g) (partsOn Right p f g)))) i;
-    }
+  on-left = (k ∙ ap (λ (ps : List ℕ). view Left s ++ ps) (sym (on-left (partsOn Left p f g) (partsOn Right p f g)))) i;
+  on-right = (h ∙ ap (λ (ps : List ℕ). splice at ps (view Right s)) (sym (on-right (partsOn Left p f g) (partsOn Right p f g)))) i;
+}
 
 module _ (q : List ℕ) (s : Running) (good : Good q s) (items : length (s .items) ≡ ROOM) (p : Placing) (f g : ℕ) (hf : Stands q f) (hg : Stands q g)
     (t : Side) (at : ℕ) (due : Compounds q t at s) (room : size (premise t at (places s) (placed p f g)) ≤ ROOM)
@@ -212,13 +212,14 @@ module _ (q : List ℕ) (s : Running) (good : Good q s) (items : length (s .item
           ∙ ap (λ (l : List ℕ). state (letters (map (formulaAt q) l))) (sym end-view)
 
       pub premise-made : (places r ≡ premise t at (places s) (placed p f g)) × Good q r
-      premise-made =
-          (places-premise s r p f g at t place-view end-view,
-          record {
-            short = good .short;
-            room = omega (arith, append-fits, sides t r, sides t r₁, c₂ .counted, rw (other-other t) at (c₂ .aside-counted), length-append (view (other t) r₁) (partsView m), parts-count m (sm .few), c₁ .aside-counted, ap length (c₁ .aside), held q s good items p f g hf hg (other t));
-            stand = both (λ u. Each (Stands q) (view u r)) t
-                (rw place-view (each-splice (Stands q) at (partsOn t p f g) (view t s) (each-parts (Stands q) t p f g hf hg) (good .stand t)))
-                (rw end-view (each-append (Stands q) (view (other t) s) (partsOn (other t) p f g) (good .stand (other t)) (each-parts (Stands q) (other t) p f g hf hg)));
-            masks = both (λ u. maskOf u r ≡ state (letters (formulasOf q u r))) t place-mask end-mask;
-          })
+      premise-made = (
+        places-premise s r p f g at t place-view end-view,
+        record {
+          short = good .short;
+          room = omega (arith, append-fits, sides t r, sides t r₁, c₂ .counted, rw (other-other t) at (c₂ .aside-counted), length-append (view (other t) r₁) (partsView m), parts-count m (sm .few), c₁ .aside-counted, ap length (c₁ .aside), held q s good items p f g hf hg (other t));
+          stand = both (λ u. Each (Stands q) (view u r)) t
+              (rw place-view (each-splice (Stands q) at (partsOn t p f g) (view t s) (each-parts (Stands q) t p f g hf hg) (good .stand t)))
+              (rw end-view (each-append (Stands q) (view (other t) s) (partsOn (other t) p f g) (good .stand (other t)) (each-parts (Stands q) (other t) p f g hf hg)));
+          masks = both (λ u. maskOf u r ≡ state (letters (formulasOf q u r))) t place-mask end-mask;
+        },
+      )

@@ -1,6 +1,5 @@
 // The running sequent and its reductions.
 use calculus::Side;
-
 ghost use mathlib.Core.Path.{_≡_};
 ghost use mathlib.Core.List.{[], _++_, map};
 ghost use Prim.Native.Nat.{ℕ, _+_, _-_, _^_, _≤_, _<_};
@@ -45,21 +44,63 @@ pub struct Rule {
 }
 
 const L: u8 = 1;
+
 const R: u8 = 2;
+
 const NONE: Placing = Placing { f: 0, g: 0 };
 
 // The ten reductions, NOT to EQUIV, each on the left and on the right.
 const RULES: [Rule; 10] = [
-    Rule { premises: 1, first: Placing { f: R, g: 0 }, second: NONE },
-    Rule { premises: 1, first: Placing { f: L, g: 0 }, second: NONE },
-    Rule { premises: 1, first: Placing { f: L, g: L }, second: NONE },
-    Rule { premises: 2, first: Placing { f: R, g: 0 }, second: Placing { f: 0, g: R } },
-    Rule { premises: 2, first: Placing { f: L, g: 0 }, second: Placing { f: 0, g: L } },
-    Rule { premises: 1, first: Placing { f: R, g: R }, second: NONE },
-    Rule { premises: 2, first: Placing { f: 0, g: L }, second: Placing { f: R, g: 0 } },
-    Rule { premises: 1, first: Placing { f: L, g: R }, second: NONE },
-    Rule { premises: 2, first: Placing { f: L, g: L }, second: Placing { f: R, g: R } },
-    Rule { premises: 2, first: Placing { f: L, g: R }, second: Placing { f: R, g: L } },
+    Rule {
+        premises: 1,
+        first: Placing { f: R, g: 0 },
+        second: NONE,
+    },
+    Rule {
+        premises: 1,
+        first: Placing { f: L, g: 0 },
+        second: NONE,
+    },
+    Rule {
+        premises: 1,
+        first: Placing { f: L, g: L },
+        second: NONE,
+    },
+    Rule {
+        premises: 2,
+        first: Placing { f: R, g: 0 },
+        second: Placing { f: 0, g: R },
+    },
+    Rule {
+        premises: 2,
+        first: Placing { f: L, g: 0 },
+        second: Placing { f: 0, g: L },
+    },
+    Rule {
+        premises: 1,
+        first: Placing { f: R, g: R },
+        second: NONE,
+    },
+    Rule {
+        premises: 2,
+        first: Placing { f: 0, g: L },
+        second: Placing { f: R, g: 0 },
+    },
+    Rule {
+        premises: 1,
+        first: Placing { f: L, g: R },
+        second: NONE,
+    },
+    Rule {
+        premises: 2,
+        first: Placing { f: L, g: L },
+        second: Placing { f: R, g: R },
+    },
+    Rule {
+        premises: 2,
+        first: Placing { f: L, g: R },
+        second: Placing { f: R, g: L },
+    },
 ];
 
 fn side_code(side: Side) -> u8

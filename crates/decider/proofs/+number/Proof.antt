@@ -45,35 +45,35 @@ pub +number-spec : {M : Type 1} → statement M
     (λ c. let s = c .before .before .before .before .before in let a = s .args in let h = s .pre .1 in omega (arith, well-inside (a .q .now) (a .at) (h .0)))
     (λ c. let s = c .before .before .before .before .before in let a = s .args in let h = s .pre .1 in omega (arith, h .2))
     (λ c κs.
-    let s = c .before .before .before .before .before in let a = s .args in let h = s .pre .1 in 
+    let s = c .before .before .before .before .before in let a = s .args in let h = s .pre .1 in
     let f = first-here (a .q .now) (a .at) (h .0) (c .before .if1 .left) in
     (omega (arith, s .pre .0, well-inside (a .q .now) (a .at) (h .0)), (f .well, f .lettered (h .1), omega (arith, f .less, h .2), h .3)))
     (λ c κs. tt)
     (λ c. let s = c .before .before .before .before .before .before .before .before .before .before in let a = s .args in let h = s .pre .1 in omega (arith, h .2))
     (λ c.
-    let s = c .before .before .before .before .before .before .before .before .before .before in let a = s .args in let h = s .pre .1 in 
+    let s = c .before .before .before .before .before .before .before .before .before .before in let a = s .args in let h = s .pre .1 in
     omega (arith, h .2, h .3, c .before .before .before .before .number .kept .1 .0, first-here (a .q .now) (a .at) (h .0) (c .before .before .before .before .before .before .if1 .left) .less))
     (λ c κs. let s = c .before .before .before .before .before .before .before .before .before .before in let a = s .args in let h = s .pre .1 in omega (arith, h .2, first-here (a .q .now) (a .at) (h .0) (c .before .before .before .before .before .before .if1 .left) .less))
     (λ c. simp length-set (c .before .before .before .before .before .number .kept .1 .0))
     (λ c.
-    let s = c .before .before .before .before .before .before .before .before .before .before .before in let a = s .args in let h = s .pre .1 in 
+    let s = c .before .before .before .before .before .before .before .before .before .before .before in let a = s .args in let h = s .pre .1 in
     let r = c .before .before .before .before .before .number in
     rw (c .before .node .ensures) (number-not (a .q .now) (a .at) (a .n) (h .0) (a .nodes .now) (c .before .before .before .before .before .before .before .if1 .left) (r .result) (r .ensures .0) (r .last .1 .0) (r .ensures .1) (getD (a .q .now) (a .at) 0) (c .name .result) refl (c .name .ensures) (c .before .before .if2 .taken)
     (omega (arith, h .2, h .3, r .kept .1 .0, first-here (a .q .now) (a .at) (h .0) (c .before .before .before .before .before .before .before .if1 .left) .less))))
     (λ c κs.
-    let s = c .before .before .before .before .before .before .before .before .before .before in let a = s .args in let h = s .pre .1 in 
+    let s = c .before .before .before .before .before .before .before .before .before .before in let a = s .args in let h = s .pre .1 in
     let r = c .before .before .before .before .number in
     let w = second-enters (a .q .now) (a .at) (a .n) (h .0) (c .before .before .before .before .before .before .if1 .left) (c .before .if2 .left) (r .result) (r .ensures .0) (h .1) (h .2) in
     (omega (arith, s .pre .0, w .3, well-inside (a .q .now) (a .at) (h .0)), (w .0, w .1, w .2, r .kept .1 .0 ∙ h .3)))
     (λ c κs. tt)
     (λ c. let s = c .before .before .before .before .before .before .before .before .before .before .before .before .before .before in let a = s .args in let h = s .pre .1 in omega (arith, h .2))
     (λ c.
-    let s = c .before .before .before .before .before .before .before .before .before .before .before .before .before .before in let a = s .args in let h = s .pre .1 in 
+    let s = c .before .before .before .before .before .before .before .before .before .before .before .before .before .before in let a = s .args in let h = s .pre .1 in
     omega (arith, h .2, h .3, c .before .before .before .number2 .kept .1 .0, c .before .before .before .before .before .before .before .before .number .kept .1 .0, first-here (a .q .now) (a .at) (h .0) (c .before .before .before .before .before .before .before .before .before .before .if1 .left) .less))
     (λ c κs. let s = c .before .before .before .before .before .before .before .before .before .before .before .before .before .before in let a = s .args in let h = s .pre .1 in omega (arith, h .2, first-here (a .q .now) (a .at) (h .0) (c .before .before .before .before .before .before .before .before .before .before .if1 .left) .less))
     (λ c. simp length-set (c .before .before .before .before .number2 .kept .1 .0 ∙ c .before .before .before .before .before .before .before .before .before .number .kept .1 .0))
     (λ c.
-    let s = c .before .before .before .before .before .before .before .before .before .before .before .before .before .before .before in let a = s .args in let h = s .pre .1 in 
+    let s = c .before .before .before .before .before .before .before .before .before .before .before .before .before .before .before in let a = s .args in let h = s .pre .1 in
     let r = c .before .before .before .before .before .before .before .before .before .number in
     let w = c .before .before .before .before .number2 in
     rw (c .before .node2 .ensures) (number-two (a .q .now) (a .at) (a .n) (h .0) (a .nodes .now) (c .before .before .before .before .before .before .before .before .before .before .before .if1 .left) (r .result) (r .ensures .0) (r .last .1 .0) (r .ensures .1) (getD (a .q .now) (a .at) 0) (c .name2 .result) refl (c .name2 .ensures) (c .before .before .before .before .before .before .if2 .left)

@@ -148,8 +148,8 @@ pub +run+run-premises-spec : {M : Type 1} → statement M
     let r = c .before .before .run-premises in
     let w₀ = rw (c .before .before .before .before .before .answer2 .given .1) at (c .before .before .before .before .before .before .before .step .ensures (s .pre .1 .0) (s .pre .1 .1)) in (
       λ S h.
-        let w = rw (c .before .before .before .before .before .answer2 .given .1) at (c .before .before .before .before .before .before .before .step .ensures S h) in
-        r .ensures .0 (w .0) (w .1) S (w .3) ∙ answered (s .args .left) S (isDue (c .before .before .before .before .before .answer2 .given .0 .0 .side) (w .0) (w .1)) (w .2),
+          let w = rw (c .before .before .before .before .before .answer2 .given .1) at (c .before .before .before .before .before .before .before .step .ensures S h) in
+          r .ensures .0 (w .0) (w .1) S (w .3) ∙ answered (s .args .left) S (isDue (c .before .before .before .before .before .answer2 .given .0 .0 .side) (w .0) (w .1)) (w .2),
       rw (w₀ .5) at (r .ensures .1),
     )))
     λ t. run-premises-lts.spec (
@@ -216,7 +216,7 @@ pub +run+run-premises-spec : {M : Type 1} → statement M
     let h = s .pre .1 in
     let j = c .joined .ensures in (
       λ i x S h.
-        pass-two (a .nodes .now) (a .queue .now) i x S (a .d) h (a .left) (r .run .result) (first-now t r i x S h) (c .before .before .before .before .before .before .before .before .before .before .before .if1 .left) (c .before .before .before .before .before .before .before .before .before .enum-told .given .1) (w .run2 .result) (c .joined .result) (second-now t w i x S h) (j .0) (j .1) (j .2),
+          pass-two (a .nodes .now) (a .queue .now) i x S (a .d) h (a .left) (r .run .result) (first-now t r i x S h) (c .before .before .before .before .before .before .before .before .before .before .before .if1 .left) (c .before .before .before .before .before .before .before .before .before .enum-told .given .1) (w .run2 .result) (c .joined .result) (second-now t w i x S h) (j .0) (j .1) (j .2),
       kept-again t w (h .0) (h .1) (h .2) (h .3),
     ))
     (λ c. search needs)
@@ -226,6 +226,6 @@ pub +run+run-premises-spec : {M : Type 1} → statement M
     let a = s .args in
     let h = s .pre .1 in (
       λ i x S h.
-        pass-stop (a .nodes .now) (a .queue .now) i x S (a .d) h (a .left) (r .run .result) (first-now t r i x S h) (c .before .if1 .left) (λ e. miss (1 ∷ 2 ∷ 3 ∷ []) 0 tt (rw e at (c .match .keys2))),
+          pass-stop (a .nodes .now) (a .queue .now) i x S (a .d) h (a .left) (r .run .result) (first-now t r i x S h) (c .before .if1 .left) (λ e. miss (1 ∷ 2 ∷ 3 ∷ []) 0 tt (rw e at (c .match .keys2))),
       kept-now t r (h .0) (h .1) (h .2) (h .3),
     ))

@@ -54,6 +54,6 @@ enter-spec =
     let x = formulaAt (a .q .now) (a .l .end) in
     let t = w .ensures .1 .told in (
       λ S h e.
-        rw (w .ensures .0) (enter-by (a .nodes .now) (a .queue .now) (w .last .1 .0) (p .last .1 .0) (a .l) S h x t (w .ensures .1 .kept) (w .kept .1 .0) (p .kept .1 .0) (named (a .q .now) (a .l .end) (a .l .next) .end) (a .side) (p .result) (rw (w .ensures .0, c .before .before .before .before .before .side-code .ensures) at (p .ensures .0)) (omega (arith, h .to, h .queue, e .few)) (rw (w .ensures .0, c .before .before .before .before .before .side-code .ensures) at (p .ensures .1))),
+          rw (w .ensures .0) (enter-by (a .nodes .now) (a .queue .now) (w .last .1 .0) (p .last .1 .0) (a .l) S h x t (w .ensures .1 .kept) (w .kept .1 .0) (p .kept .1 .0) (named (a .q .now) (a .l .end) (a .l .next) .end) (a .side) (p .result) (rw (w .ensures .0, c .before .before .before .before .before .side-code .ensures) at (p .ensures .0)) (omega (arith, h .to, h .queue, e .few)) (rw (w .ensures .0, c .before .before .before .before .before .side-code .ensures) at (p .ensures .1))),
       ap (λ (v : Named). v .end) (w .ensures .0),
     )))
