@@ -1,0 +1,44 @@
+-- `decider::Sets::reduction` meets its contract. Assumes nothing.
+use mathlib.Core.Path.{_≡_, refl, sym, ap, _∙_}
+use Prim.Native.Nat.{ℕ, _+_, _-_}
+use native.Mathlib.Omega.{arith}
+use borrow.Author.Needs.{needs}
+use Rattle.decider.proofs.Sets.reduction.Statement.{statement}
+use Rattle.decider.proofs.Sets.reduction.Tie as tie
+
+pub reduction-spec : {M : Type 1} → statement M
+reduction-spec =
+    tie.close
+    (tie.spec
+    (λ c. search needs)
+    (λ c. search needs)
+    (λ c. search needs)
+    (λ c κs. search needs)
+    (λ c. search needs)
+    (λ c κs. search needs)
+    (λ c. search needs)
+    (λ c.
+    let n = c .before .before .before .before .before .before .before .args .self .size in
+    let u = c .before .before .before .before .rule-of in
+    let p = c .before .before .parts in
+    (n - 1 + p .result, record { rule = u .result; rows = u .ensures; size = ap (λ (k : ℕ). n - 1 + k) (p .ensures .0) }, c .if1 .taken))
+    (λ c.
+    let n = c .before .before .before .before .before .before .before .before .args .self .size in
+    let u = c .before .before .before .before .before .rule-of in
+    let p = c .before .before .before .parts in
+    (n - 1 + p .result, record { rule = u .result; rows = u .ensures; size = ap (λ (k : ℕ). n - 1 + k) (p .ensures .0) }, c .before .if1 .left, c .if2 .taken))
+    (λ c. search needs)
+    (λ c. search needs)
+    (λ c. search needs)
+    (λ c.
+    let u = c .before .before .before .before .before .before .rule-of in
+    let p = c .before .before .before .before .parts in
+    record {
+      side = refl;
+      rows = u .ensures;
+      first = refl;
+      second = refl;
+      rest = rw (p .ensures .0);
+      room = rw (p .ensures .0) at (c .before .before .if1 .left);
+      left = omega (arith, c .before .if2 .left);
+    }))

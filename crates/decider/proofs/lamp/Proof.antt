@@ -1,0 +1,19 @@
+-- `decider::lamp` meets its contract. Assumes nothing.
+use native.Mathlib.Omega.{arith}
+use borrow.Author.Needs.{needs}
+use borrow.Author.Tests.{le-ltb, lt-ltb}
+use Rattle.calculus.specs.Limits.{LETTERS}
+use Rattle.decider.proofs.Numbers.{shifted}
+use Rattle.decider.proofs.lamp.Statement.{statement}
+use Rattle.decider.proofs.lamp.Tie as tie
+
+pub lamp-spec : {M : Type 1} → statement M
+lamp-spec =
+    tie.close
+    (tie.spec
+    (λ c. search needs)
+    (λ c.
+    let d = c .before .before .args .name in
+    rw (c .before .if1 .taken, lt-ltb d LETTERS (c .if2 .taken)) (shifted 32 d (omega arith)))
+    (λ c. rw (c .before .if1 .taken, le-ltb (c .before .before .args .name) LETTERS (c .if2 .left)))
+    (λ c. search needs))

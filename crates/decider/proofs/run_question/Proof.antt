@@ -1,0 +1,37 @@
+-- `decider::run_question` meets its contract: the sets of the whole question are run. Assumes nothing.
+use mathlib.Core.Path.{_≡_, refl}
+use native.Mathlib.Omega.{arith}
+use borrow.Author.Needs.{needs}
+use Rattle.calculus.specs.declared.Side.the-variants.{Right}
+use Rattle.calculus.specs.Bytes.{question}
+use Rattle.question.proofs.Questions.{side-inside}
+use Rattle.decider.specs.States.{Runs}
+use Rattle.decider.proofs.Entering.{load-start, right-starts, between, all-run}
+use Rattle.decider.proofs.run_question.Statement.{statement}
+use Rattle.decider.proofs.run_question.Tie as tie
+
+-- the sets of the whole question
+whole-now : (c : tie.After-load2) → Runs (c .load2 .last .1 .0) (c .load2 .last .1 .1 .0) (c .load2 .result .sets) (question (c .before .before .before .before .before .before .before .before .before .before .before .args .q .now))
+whole-now c = all-run (c .before .before .before .before .before .before .before .before .before .before .before .args .q .now) (c .before .before .before .before .before .before .before .before .before .before .before .pre) (c .load2 .last .1 .0) (c .load2 .last .1 .1 .0) (c .load2 .result) (c .load2 .ensures .0)
+
+pub run-question-spec : {M : Type 1} → statement M
+run-question-spec =
+    tie.close
+    (tie.spec
+    (λ c. search needs)
+    (λ c. search needs)
+    (λ c κs. let s = c .before .before .before in (s .pre, refl, load-start _ _ (question (s .args .q .now)) refl refl))
+    (λ c.
+    let s = c .before .before .before .before .before .before .before .before in
+    omega (arith, right-starts (s .args .q .now) (s .pre) (c .before .before .before .before .load .result .end) (c .before .before .before .before .load .ensures .1), side-inside (s .args .q .now) (s .pre) Right))
+    (λ c. search needs)
+    (λ c. search needs)
+    (λ c κs.
+    let s = c .before .before .before .before .before .before .before .before .before .before in
+    let q = s .args .q .now in
+    let l = c .before .before .before .before .before .before .load in
+    (s .pre, right-starts q (s .pre) (l .result .end) (l .ensures .1), between q (s .pre) (l .last .1 .0) (l .last .1 .1 .0) (l .result) _ (l .ensures .0)))
+    (λ c. search needs)
+    (λ c. search needs)
+    (λ c κs. (question (c .before .before .before .before .before .before .before .before .before .before .before .before .before .before .before .before .args .q .now), whole-now (c .before .before .before .before .before)))
+    (λ c. c .before .run .ensures .0 (question (c .before .before .before .before .before .before .before .before .before .before .before .before .before .before .before .before .before .before .args .q .now)) (whole-now (c .before .before .before .before .before .before .before))))
