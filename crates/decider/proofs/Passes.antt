@@ -22,11 +22,11 @@ use Rattle.calculus.specs.Fold.{choose}
 use Rattle.calculus.specs.Limits.{ROOM, LETTERS, CONNECTIVES}
 use Rattle.calculus.specs.Syntax.{other, Formula, Compound, whole, Sequent, on-side, connectives, c, size}
 use Rattle.calculus.specs.Table.{splice, premises}
-use Rattle.calculus.specs.Tree.{letters, state, Step, closed, opened, full, reduced, step, isDue, afford, Event, close, reduce, closings, tree, spend, outcome, Inner, inner, andThen, pass, act}
+use Rattle.calculus.specs.Tree.{letters, state, Step, closed, opened, full, reduced, step, isDue, afford, Event, close, reduce, closings, closingsBefore, tree, spend, outcome, Inner, inner, andThen, pass, act}
 use Rattle.calculus.proofs.Folds.{fold-append}
 use Rattle.calculus.proofs.Sequents.{Smaller, smaller}
 use Rattle.calculus.proofs.Bounds.{closings-bound, W-bound}
-use Rattle.calculus.proofs.Budgets.{closingsBefore, spend-closings, outcome-step}
+use Rattle.calculus.proofs.Budgets.{spend-closings, outcome-step}
 use Rattle.sequent.specs.declared.Placing.{Placing}
 use Rattle.sequent.specs.declared.Rule.{Rule}
 use Rattle.sequent.specs.Rule.{partsOn, premiseOf}

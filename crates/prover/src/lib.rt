@@ -1,6 +1,4 @@
-// The inner step, the run and the call that decides.
-use calculus::Kind;
-use calculus::Outcome;
+// The inner step on a running sequent, and the call that decides.
 use calculus::Side;
 use calculus::Verdict;
 use question::Reading;
@@ -11,16 +9,14 @@ use sequent::Running;
 ghost use mathlib.Core.Path.{_≡_};
 ghost use Prim.Native.Nat.{ℕ, _+_, _≤_, _<_};
 ghost use Rattle.calculus.specs.Limits;
-ghost use Rattle.calculus.specs.Limits.{CONNECTIVES};
-ghost use Rattle.calculus.specs.Syntax.{c};
 ghost use Rattle.calculus.specs.Bytes.{question};
 ghost use Rattle.calculus.specs.Reading.{reading, accepted};
 ghost use Rattle.calculus.specs.Reply.{decideReply};
-ghost use Rattle.calculus.specs.Tree.{outcome, verdict, afford, due};
+ghost use Rattle.calculus.specs.Tree.{verdict, afford, due};
 ghost use Rattle.sequent.specs.View.{sequentOf, Good};
 ghost use Rattle.reduction.specs.Reduction.{compoundAt, FoundAt, overfullOf};
 ghost use Rattle.prover.specs.Answers.{decisionOf, Promised};
-ghost use Rattle.prover.specs.Inner.{innerOf, Ready, Stepped, IsDue, ended};
+ghost use Rattle.prover.specs.Inner.{innerOf, Ready, Stepped};
 
 const ROOM: usize = 80;
 
@@ -88,75 +84,12 @@ pub fn step(q: &[u8], s: Running, left: u64) -> Due
     }
 }
 
-fn ended(kind: Kind, left: u64, closings: u64) -> Outcome
-    ensures { λ r. ⌜ r ≡ ended kind left closings ⌝ }
-{
-    Outcome {
-        kind: kind,
-        unspent: left,
-        closings: closings,
-    }
-}
-
-// The run: reductions left go in and come out.
-pub fn run(q: &[u8], s: Running, left: u64) -> Outcome
-    requires { ⌜ Good (now q) s × (c (sequentOf (now q) s) ≤ CONNECTIVES) ⌝ }
-    ensures { λ r. ⌜ r ≡ outcome left (sequentOf (now (q .entry)) s) ⌝ }
-{
-    let due = step(q, s, left);
-    match due {
-        Due::Closed(_) => ended(Kind::Theorem, left, 1),
-        Due::Open(state) => ended(Kind::Refuted(state), left, 0),
-        Due::Full => ended(Kind::Full, left, 0),
-        Due::Spent => ended(Kind::Spent, left, 0),
-        Due::Reduce(side, at, p) => reduce(q, s, side, at, p, left),
-    }
-}
-
-// The reduction that is due: the first premise is finished, then the second is taken up.
-fn reduce(q: &[u8], s: Running, side: Side, at: usize, p: u8, left: u64) -> Outcome
-    requires { ⌜ Good (now q) s × (c (sequentOf (now q) s) ≤ CONNECTIVES) × IsDue (now q) s left side at p ⌝ }
-    ensures { λ r. ⌜ r ≡ outcome left (sequentOf (now (q .entry)) s) ⌝ }
-{
-    let how = reduction::reduction_of(q, p, side);
-    let rule = how.rule;
-    let o = run(
-        q,
-        s.premise(q, side, at, rule.first, how.f, how.g),
-        left - 1,
-    );
-    if rule.premises != 2 {
-        return o;
-    }
-    let kind = o.kind;
-    match kind {
-        Kind::Theorem => {
-            let w = run(
-                q,
-                s.premise(q, side, at, rule.second, how.f, how.g),
-                o.unspent,
-            );
-            let last = w.kind;
-            ended(last, w.unspent, o.closings + w.closings)
-        }
-        _ => o,
-    }
-}
-
-// The run of an accepted question.
-pub fn run_question(q: &[u8], budget: u64) -> Outcome
-    requires { ⌜ reading (now q) ≡ accepted ⌝ }
-    ensures { λ r. ⌜ r ≡ outcome budget (question (now (q .entry))) ⌝ }
-{
-    run(q, reduction::root(q), budget)
-}
-
 // The verdict of an accepted question.
 pub fn verdict_of(q: &[u8], budget: u64) -> Verdict
     requires { ⌜ reading (now q) ≡ accepted ⌝ }
     ensures { λ r. ⌜ r ≡ verdict budget (question (now (q .entry))) ⌝ }
 {
-    let o = run_question(q, budget);
+    let o = decider::run_question(q, budget);
     let kind = o.kind;
     Verdict {
         kind: kind,
