@@ -5,13 +5,6 @@ use Rattle.calculus.specs.Reply.{formulaPart}
 use borrow.Author.Needs.{needs}
 use Rattle.reader_cases.proofs.hand_out.Statement.{statement}
 use Rattle.reader_cases.proofs.hand_out.Tie as tie
-use Rattle.reader_cases.proofs.hand_out.Reads as reads
-use Rattle.reader_cases.proofs.hand_out.Lts as lts
-use Rattle.print.proofs.bytes.Reads as bytes-reads
-use Rattle.print.proofs.end_line.Reads as end-line-reads
-use Rattle.print.proofs.number.Reads as number-reads
-use Rattle.print.proofs.word.Reads as word-reads
-use Rattle.question.proofs.formula.Reads as formula-reads
 
 formula-requires : tie.Need-formula-requires
 formula-requires c κs = search needs
