@@ -1,15 +1,15 @@
 -- One more byte behind a text of bytes in hexadecimal.
 -- Assumes nothing.
 use mathlib.Core.Path.{_≡_, refl, sym, ap, _∙_}
-use mathlib.Core.List.{List, [], _∷_, _++_, append-assoc}
-use Prim.Native.Nat.{ℕ, zero, suc, _+_, _*_, _≤_, _<_}
+use mathlib.Core.List.{List, [], _∷_, _++_}
+use Prim.Native.Nat.{ℕ, _+_, _*_, _≤_, _<_}
 use native.Mathlib.Numerals.{add-one}
 use native.Mathlib.Omega.{arith}
-use lib.ListN.{length, take, drop, getD, length-append, length-take, length-drop}
+use lib.ListN.{length, take, drop, getD, length-append, length-drop}
 use lib.Seq.{take-suc, take-at, drop-append-add, drop-drop, sets, sets-eq, length-take-le}
 use Rattle.print.specs.Text.{spelled, hexadecimal}
 
-pub text-length : (bs : List ℕ) → length (hexadecimal bs) ≡ 3 * length bs
+text-length : (bs : List ℕ) → length (hexadecimal bs) ≡ 3 * length bs
 text-length [] = refl
 text-length (b ∷ bs) = omega (arith, text-length bs)
 

@@ -10,7 +10,7 @@ ghost use Rattle.question.specs.Answers.{numberOf, placeOf};
 ghost use Rattle.print.specs.Text.{spelled, hexadecimal};
 
 // The hexadecimal digit of a number below 16.
-pub fn digit(n: u8) -> u8
+fn digit(n: u8) -> u8
     requires { ⌜ n < 16 ⌝ }
     ensures { λ r. ⌜ r ≡ glyph n ⌝ }
 {

@@ -1,17 +1,14 @@
-use mathlib.Core.Path.{_≡_, refl, sym, ap, _∙_}
+use mathlib.Core.Path.{_≡_, ap, _∙_}
 use mathlib.Core.List.{List, _++_}
 use Prim.Native.Nat.{ℕ, _≤_, _*_, _-_}
 use native.Mathlib.Omega.{arith}
 use lib.ListN.{length, take, drop, getD}
 use lib.Seq.{take-length, sets}
 use Rattle.print.specs.Text.{spelled, hexadecimal}
-use Rattle.print.proofs.Texts.{textAt, text-next, text-length}
+use Rattle.print.proofs.Texts.{textAt, text-next}
 use borrow.Author.Needs.{needs}
 use Rattle.print.proofs.put_bytes.Statement.{statement}
 use Rattle.print.proofs.put_bytes.Tie as tie
-use Rattle.print.proofs.put_bytes.Reads as reads
-use Rattle.print.proofs.put_bytes.Lts as lts
-use Rattle.print.proofs.put_byte.Reads as put-byte-reads
 
 abbrev Inv-loop : tie.InvT-loop
 Inv-loop bytes out₀ i₀ out i = (i ≤ length bytes) × (length out ≡ length out₀) × (out ≡ textAt bytes i out₀)

@@ -1,0 +1,2 @@
+-- The law behind a function's proof. Assumes nothing.
+pub mod Fits

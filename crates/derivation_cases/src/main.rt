@@ -1,0 +1,199 @@
+// The derivations of document 01's cases 2, 4, 5 and 7, other orders, and the smallest examples of its numbers 9 to 11 and 20
+// to 25. Number 8 has none: no premise of an accepted question holds more than 80 formulas.
+use calculus::Kind;
+use calculus::Verdict;
+use checker::Fault;
+ghost use mathlib.Core.Path.{_≡_};
+ghost use Prim.Native.Nat.{_≤_};
+ghost use lib.ListN.{length};
+ghost use Rattle.checker.specs.Answers.{faultNumber, faultPlace};
+
+const BUDGET: u64 = 1000000;
+
+// Document 01's number of a fault.
+fn number_of(fault: Fault) -> u64
+    ensures { λ r. ⌜ r ≡ faultNumber fault ⌝ }
+{
+    match fault {
+        Fault::CutShort(_) => 20,
+        Fault::UnknownCommand(_) => 21,
+        Fault::NoFormula(_) => 22,
+        Fault::OtherConnective(_) => 23,
+        Fault::NotClosed(_) => 24,
+        Fault::BytesAfter(_) => 25,
+    }
+}
+
+// Its place.
+fn place_of(fault: Fault) -> u64
+    ensures { λ r. ⌜ r ≡ faultPlace fault ⌝ }
+{
+    match fault {
+        Fault::CutShort(at) => at as u64,
+        Fault::UnknownCommand(at) => at as u64,
+        Fault::NoFormula(at) => at as u64,
+        Fault::OtherConnective(at) => at as u64,
+        Fault::NotClosed(at) => at as u64,
+        Fault::BytesAfter(at) => at as u64,
+    }
+}
+
+// One line: what the checker answers.
+fn check(q: &[u8], derivation: &[u8]) {
+    let answer = checker::check(q, derivation);
+    match answer {
+        checker::Answer::Refused(r) => print::refused(r),
+        checker::Answer::Faulty(f) => {
+            print::word(b"faulty");
+            print::number(number_of(f));
+            print::number(place_of(f));
+            print::end_line();
+        }
+        checker::Answer::Passes => print::word(b"passes\n"),
+    }
+}
+
+// A verdict with no derivation: its number, the state of a refuted question, and both counts.
+fn unproved(v: Verdict) {
+    let kind = v.kind;
+    match kind {
+        Kind::Theorem => print::word(b"theorem"),
+        Kind::Full => print::word(b"full 8"),
+        Kind::Spent => print::word(b"spent 9"),
+        Kind::Refuted(state) => {
+            print::word(b"not proved 10");
+            print::number(state as u64);
+        }
+    }
+    counts(v);
+}
+
+fn counts(v: Verdict) {
+    print::number(v.reductions);
+    print::number(v.closings);
+    print::end_line();
+}
+
+// One line: what the writer answered.
+fn answer(a: writer::Answer) {
+    match a {
+        writer::Answer::Refused(r) => print::refused(r),
+        writer::Answer::NotProved(v) => unproved(v),
+        writer::Answer::NoSpace(n) => {
+            print::word(b"no space 11");
+            print::number(n);
+            print::end_line();
+        }
+        writer::Answer::Written(n, v) => {
+            print::word(b"written");
+            print::number(n);
+            counts(v);
+        }
+    }
+}
+
+// The writer's answer, and what the lent buffer holds after it.
+fn lend(q: &[u8], budget: u64, buffer: &mut [u8])
+    requires { ⌜ length (now buffer) ≤ 4096 ⌝ }
+{
+    answer(writer::derive(q, budget, buffer));
+    print::word(b"buffer ");
+    print::bytes(buffer);
+    print::end_line();
+}
+
+// The derivation in the first n bytes of a buffer, and what the checker says of it.
+fn show(q: &[u8], buffer: &[u8], n: u64)
+    requires { ⌜ (n ≤ length (now buffer)) × (length (now buffer) ≤ 4096) ⌝ }
+{
+    let end = n as usize;
+    let derivation = &buffer[0..end];
+    print::bytes(derivation);
+    print::end_line();
+    check(q, derivation);
+}
+
+// The writer's answer, and the derivation.
+fn derive(q: &[u8], buffer: &mut [u8])
+    requires { ⌜ length (now buffer) ≤ 4096 ⌝ }
+{
+    let a = writer::derive(q, BUDGET, buffer);
+    answer(a);
+    if let writer::Answer::Written(n, _) = a {
+        show(q, buffer, n);
+    }
+}
+
+// Cases 2, 4, 5 and 7.
+fn cases() {
+    let mut buffer = [0u8; 4096];
+    derive(b"\x10\x01\x01\x00\x20\x01\x01\x00", &mut buffer);
+    derive(
+        b"\x10\x01\x02\x04\x01\x00\x01\x01\x20\x01\x02\x01\x00",
+        &mut buffer,
+    );
+    derive(
+        b"\x10\x00\x20\x01\x05\x03\x02\x01\x00\x02\x01\x01\x06\x01\x00\x01\x01",
+        &mut buffer,
+    );
+    derive(b"\x10\x00\x20\x01\x06\x01\x00\x01\x00", &mut buffer);
+}
+
+// Case 4 reduced in other orders than ours: the formula on the right first, and the place behind it first.
+fn other_orders() {
+    let q = b"\x10\x01\x02\x04\x01\x00\x01\x01\x20\x01\x02\x01\x00";
+    check(q, b"\x62\x00\x52\x00\x64\x00\x41\x00");
+    check(q, b"\x52\x00\x64\x01\x62\x00\x41\x00");
+}
+
+// 20 to 25. The empty sequent is the smallest question; 23 asks for a formula, and 25 for a theorem.
+fn faults() {
+    let empty = b"\x10\x00\x20\x00";
+    check(empty, b"");
+    check(empty, b"\x00\x00");
+    check(empty, b"\x52\x00");
+    check(empty, b"\x62\x00");
+    check(b"\x10\x01\x01\x00\x20\x00", b"\x52\x00");
+    check(b"\x10\x00\x20\x01\x01\x00", b"\x62\x00");
+    check(b"\x10\x01\x02\x01\x00\x20\x00", b"\x53\x00");
+    check(empty, b"\x41\x00");
+    check(b"\x10\x01\x01\x00\x20\x00", b"\x41\x00");
+    check(b"\x10\x01\x01\x00\x20\x01\x01\x00", b"\x41\x00\x41");
+    check(b"", b"\x41\x00");
+}
+
+// Case 7, with the second premise at fault: its place is behind the first's derivation.
+fn second_premise() {
+    let q = b"\x10\x00\x20\x01\x06\x01\x00\x01\x00";
+    check(q, b"\x66\x00\x41\x00");
+    check(q, b"\x66\x00\x41\x00\x41\x01");
+}
+
+// Cases 9 and 10, by their budgets.
+fn failing(budget: u64, buffer: &mut [u8])
+    requires { ⌜ length (now buffer) ≤ 4096 ⌝ }
+{
+    let q =
+        b"\x10\x00\x20\x01\x05\x03\x05\x01\x00\x04\x01\x01\x01\x02\x05\x01\x02\x01\x03\x05\x03\x01\x00\x01\x01\x01\x03";
+    lend(q, budget, buffer);
+}
+
+// 9 to 11 and a refused question: the buffer keeps its content. Then a derivation with space behind it.
+fn unwritten() {
+    let mut buffer = [0xeeu8; 4];
+    lend(b"\x10\x01\x02\x01\x00\x20\x00", 0, &mut buffer);
+    lend(b"\x10\x00\x20\x00", BUDGET, &mut buffer);
+    failing(7, &mut buffer);
+    failing(8, &mut buffer);
+    lend(b"\x10\x00\x20\x01\x06\x01\x00\x01\x00", BUDGET, &mut buffer);
+    lend(b"", BUDGET, &mut buffer);
+    lend(b"\x10\x01\x01\x00\x20\x01\x01\x00", 0, &mut buffer);
+}
+
+fn main() {
+    cases();
+    other_orders();
+    faults();
+    second_premise();
+    unwritten();
+}
