@@ -11,11 +11,10 @@ use native.Mathlib.Omega.{arith}
 use Rattle.calculus.specs.declared.Kind.{Kind}
 use Rattle.calculus.specs.declared.Kind.the-variants.{Theorem, Refuted, Spent, Full}
 use Rattle.calculus.specs.declared.Outcome.{Outcome}
-use Rattle.calculus.specs.declared.Verdict.{Verdict}
 use Rattle.calculus.specs.Fold.{Each}
 use Rattle.calculus.specs.Syntax.{Sequent, c}
 use Rattle.calculus.specs.Table.{premises}
-use Rattle.calculus.specs.Tree.{Step, closed, opened, full, reduced, step, Event, close, reduce, Tree, follow, chain, grow, tree, reductions, closings, oneMore, spend, outcome, verdict, closingsBefore, Inner, isClosed, isOpen, isFull, isSpent, isDue, afford, inner, andThen, pass, act, runBy, run}
+use Rattle.calculus.specs.Tree.{Step, closed, opened, full, reduced, step, Event, close, reduce, Tree, follow, chain, grow, tree, reductions, closings, oneMore, spend, outcome, verdict, closingsBefore, afford, inner, andThen, pass, act, runBy, run}
 use Rattle.calculus.proofs.Folds.{each}
 use Rattle.calculus.proofs.Sequents.{Smaller, smaller}
 use Rattle.calculus.proofs.Trees.{Right-step, right-step, tree-grows}

@@ -2,7 +2,7 @@
 -- Assumes nothing.
 use mathlib.Core.Path.{_≡_, refl, sym, ap, _∙_}
 use mathlib.Core.Logic.{_↔_}
-use mathlib.Core.Bool.{Bool, true, false, _&&_, false≢true}
+use mathlib.Core.Bool.{Bool, true, false, _&&_}
 use mathlib.Core.Option.{Option, none, some}
 use mathlib.Core.List.{List, [], _∷_, _++_, append-assoc, append-nil}
 use Prim.Native.Nat.{ℕ, suc, _+_, _*_}
@@ -15,15 +15,15 @@ use Rattle.calculus.specs.declared.Side.{Side}
 use Rattle.calculus.specs.declared.Side.the-variants.{Left, Right}
 use Rattle.calculus.specs.declared.Kind.{Kind}
 use Rattle.calculus.specs.declared.Kind.the-variants.{Theorem, Refuted, Spent, Full}
-use Rattle.calculus.specs.Fold.{fold, ALL, SUM, Each, choose}
+use Rattle.calculus.specs.Fold.{fold, ALL, Each, choose}
 use Rattle.calculus.specs.Limits.{OTHER-CONNECTIVE, NOT-CLOSED}
 use Rattle.calculus.specs.Syntax.{AND, OR, IMPLIES, EQUIV, Connective, NOT, two, Formula, letter, neg, join, Compound, whole, Sequent, on-side}
 use Rattle.calculus.specs.Bytes.{CONNECTIVE, code}
 use Rattle.calculus.specs.Truth.{truth, Valid}
 use Rattle.calculus.specs.Table.{premises}
 use Rattle.calculus.specs.Tree.{letters, among, Step, closed, opened, full, reduced, Event, close, reduce, Tree, follow, chain, grow, tree, reductions, closings}
-use Rattle.calculus.specs.Derivation.{Order, CLOSE, REDUCE, orderCode, orders, order, written, writtenAll, derivation, Closes, Derivation, by-letter, by-rule, Derivations, none-left, then, Move, fault, waiting, matched, named, obey, Checked, passes, faulty, proceed, check, checking}
-use Rattle.calculus.proofs.Folds.{and-both, found}
+use Rattle.calculus.specs.Derivation.{Order, CLOSE, REDUCE, orderCode, orders, order, written, writtenAll, derivation, Derivation, by-letter, by-rule, Derivations, none-left, then, Move, fault, waiting, named, obey, passes, faulty, proceed, check, checking}
+use Rattle.calculus.proofs.Folds.{found}
 use Rattle.calculus.proofs.Spelling.{code-injective}
 use Rattle.calculus.proofs.Sequents.{truth-premises, Smaller, smaller}
 use Rattle.calculus.proofs.Trees.{Right-step, closed-true, tree-ind}

@@ -10,14 +10,14 @@ use native.Mathlib.Nat.{add-zero}
 use native.Mathlib.Omega.{arith}
 use lib.Dec.{eqb, ltb, leb}
 use lib.ListN.{length, length-append}
-use borrow.Author.Tests.{lt-ltb, le-leb, le-ltb, ltb-true, ltb-false, leb-true, eqb-true, eq-eqb}
+use borrow.Author.Tests.{lt-ltb, le-leb, le-ltb, ltb-true, leb-true, eqb-true, eq-eqb}
 use Rattle.calculus.specs.declared.Side.{Side}
 use Rattle.calculus.specs.declared.Side.the-variants.{Left, Right}
 use Rattle.calculus.specs.declared.Expected.{Expected}
 use Rattle.calculus.specs.declared.Expected.the-variants.{Head, Count, Formula as Due, Operand, End}
 use Rattle.calculus.specs.Fold.{fold, SUM, Each, choose}
-use Rattle.calculus.specs.Limits.{ROOM, LONGEST, FORMULAS, CONNECTIVES, LETTERS, TOO-LONG, CUT, WRONG-COMMAND, MANY-FORMULAS, NO-SUCH-LETTER, MANY-CONNECTIVES, LEFT-OVER}
-use Rattle.calculus.specs.Syntax.{Binary, Connective, NOT, two, Formula, letter, neg, join, Sequent, connectives, c, size}
+use Rattle.calculus.specs.Limits.{ROOM, LONGEST, FORMULAS, CONNECTIVES, LETTERS, TOO-LONG, CUT, WRONG-COMMAND, MANY-FORMULAS, NO-SUCH-LETTER, MANY-CONNECTIVES}
+use Rattle.calculus.specs.Syntax.{Binary, NOT, two, Formula, letter, neg, join, Sequent, connectives, c, size}
 use Rattle.calculus.specs.Bytes.{Command, SIDE, LETTER, CONNECTIVE, code, command, encode, encodeAll, encodeSide, encodeSequent, bytes, bytesAll, question, Lettered, Within}
 use Rattle.calculus.specs.Reading.{Onward, refuse, onward, after, begin, advance, Reading, accepted, refused, ended, goOn, read, reading}
 use Rattle.calculus.proofs.Spelling.{command-code, command-byte, question-encode, longest}

@@ -9,7 +9,7 @@ use Rattle.calculus.specs.declared.Kind.{Kind}
 use Rattle.calculus.specs.declared.Kind.the-variants.{Theorem, Refuted, Spent, Full}
 use Rattle.calculus.specs.declared.Verdict.{Verdict}
 use Rattle.calculus.specs.Bytes.{question}
-use Rattle.calculus.specs.Reading.{Reading, accepted, refused, reading}
+use Rattle.calculus.specs.Reading.{accepted, refused, reading}
 use Rattle.calculus.specs.Tree.{verdict}
 use Rattle.calculus.specs.Reply.{Reply, verdictReply, decideReply}
 use Rattle.gekunday.specs.declared.Words.{Words}

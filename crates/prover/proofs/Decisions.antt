@@ -1,21 +1,18 @@
 -- Demands 2 and 3 of the verdict that the definitions give.
 -- Assumes nothing.
-use mathlib.Core.Path.{_≡_, refl, sym, ap, _∙_, subst}
-use mathlib.Core.Logic.{_≢_, _↔_}
+use mathlib.Core.Path.{_≡_, sym, ap, _∙_, subst}
 use mathlib.Core.List.{List}
-use Prim.Native.Nat.{ℕ, _+_, _-_, _≤_, _<_}
+use Prim.Native.Nat.{ℕ, _-_, _≤_, _<_}
 use native.Mathlib.Decide.{decLt}
 use native.Mathlib.Omega.{arith}
 use Rattle.calculus.specs.declared.Kind.{Kind}
 use Rattle.calculus.specs.declared.Kind.the-variants.{Theorem, Refuted, Spent, Full}
 use Rattle.calculus.specs.declared.Outcome.{Outcome}
 use Rattle.calculus.specs.declared.Verdict.{Verdict}
-use Rattle.calculus.specs.Limits.{CONNECTIVES}
 use Rattle.calculus.specs.Syntax.{Sequent, c}
 use Rattle.calculus.specs.Bytes.{question}
-use Rattle.calculus.specs.Reading.{Reading, accepted, refused, reading}
-use Rattle.calculus.specs.Truth.{Valid}
-use Rattle.calculus.specs.Tree.{tree, reductions, closings, closingsBefore, outcome, verdict}
+use Rattle.calculus.specs.Reading.{accepted, refused, reading}
+use Rattle.calculus.specs.Tree.{tree, reductions, closings, outcome, verdict}
 use Rattle.calculus.specs.Reply.{decideReply}
 use Rattle.calculus.proofs.Bounds.{theorem-true, theorem-exactly, refuted-false, reductions-bound, closings-bound, early}
 use Rattle.calculus.proofs.Budgets.{spent-exactly, spent-verdict, whole-verdict, spend-left}

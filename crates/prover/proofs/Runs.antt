@@ -2,14 +2,14 @@
 -- Assumes nothing.
 use mathlib.Core.Path.{_≡_, refl, sym, ap, _∙_, subst}
 use mathlib.Core.Logic.{_≢_}
-use mathlib.Core.Bool.{Bool, true, false, _||_}
+use mathlib.Core.Bool.{false, _||_}
 use mathlib.Core.Option.{Option, some}
-use mathlib.Core.List.{List, [], _∷_, map}
-use Prim.Native.Nat.{ℕ, zero, suc, _+_, _*_, _-_, _^_, _≤_, _<_}
+use mathlib.Core.List.{List, [], _∷_}
+use Prim.Native.Nat.{ℕ, zero, suc, _+_, _-_, _^_, _≤_}
 use native.Mathlib.Nat.{add-zero}
 use native.Mathlib.Omega.{arith}
 use lib.Dec.{eqb, ltb}
-use lib.ListN.{length, getD, getElem?, length-take}
+use lib.ListN.{length, getElem?, length-take}
 use lib.Pow.{pow-mono}
 use borrow.Author.Tests.{eq-eqb, ne-eqb, ltb-false}
 use Rattle.calculus.specs.declared.Side.{Side}
@@ -17,11 +17,11 @@ use Rattle.calculus.specs.declared.Side.the-variants.{Left, Right}
 use Rattle.calculus.specs.declared.Kind.{Kind}
 use Rattle.calculus.specs.declared.Kind.the-variants.{Theorem, Refuted, Spent, Full}
 use Rattle.calculus.specs.declared.Outcome.{Outcome}
-use Rattle.calculus.specs.Fold.{fold, ANY, Each, choose}
+use Rattle.calculus.specs.Fold.{fold, ANY, Each}
 use Rattle.calculus.specs.Limits.{ROOM, CONNECTIVES}
 use Rattle.calculus.specs.Syntax.{Formula, Sequent, on-side, c, size}
 use Rattle.calculus.specs.Table.{premise, premises}
-use Rattle.calculus.specs.Tree.{Event, close, reduce, tree, reductions, closings, spend, outcome, isDue, andThen, pass, act, inner}
+use Rattle.calculus.specs.Tree.{Event, close, reduce, tree, closings, spend, outcome, isDue, andThen, pass, act, inner}
 use Rattle.calculus.specs.Width.{W}
 use Rattle.calculus.proofs.Folds.{or-false-both}
 use Rattle.calculus.proofs.Sequents.{Due, Smaller, smaller}
@@ -36,10 +36,10 @@ use Rattle.sequent.proofs.Lanes.{lane-length}
 use Rattle.sequent.proofs.Changes.{sides}
 use Rattle.sequent.proofs.Premises.{element}
 use Rattle.reduction.specs.declared.Reduction.{Reduction}
-use Rattle.reduction.specs.Reduction.{compoundOf, compoundAt, premiseBy, Reduces, FoundAt}
+use Rattle.reduction.specs.Reduction.{compoundAt, premiseBy, Reduces}
 use Rattle.reduction.proofs.Reductions.{premisesWith, premises-rule, premise-stands, placed-size}
 use Rattle.prover.specs.declared.Due.{Due as Answer}
-use Rattle.prover.specs.Inner.{innerOf, ReadyAt, IsDue, ended}
+use Rattle.prover.specs.Inner.{innerOf, ReadyAt, ended}
 
 -- ---- closings
 

@@ -1,7 +1,7 @@
 -- The inner step, by the tests that the code makes.
 -- Assumes nothing.
 use mathlib.Core.Path.{_≡_, refl, sym, ap, _∙_}
-use mathlib.Core.Bool.{Bool, true, false, _||_}
+use mathlib.Core.Bool.{Bool, true, false}
 use mathlib.Core.Option.{none, some}
 use mathlib.Core.List.{List, map}
 use Prim.Native.Nat.{ℕ, zero, suc, _+_, _≤_, _<_}
@@ -13,9 +13,9 @@ use Rattle.calculus.specs.declared.Side.{Side}
 use Rattle.calculus.specs.declared.Side.the-variants.{Left, Right}
 use Rattle.calculus.specs.Fold.{fold, ANY, choose}
 use Rattle.calculus.specs.Limits.{ROOM}
-use Rattle.calculus.specs.Syntax.{Compound, Sequent, on-side, size}
+use Rattle.calculus.specs.Syntax.{on-side, size}
 use Rattle.calculus.specs.Table.{table, premises}
-use Rattle.calculus.specs.Tree.{missing, letters, state, closing, first, full, reduced, due, tests, step, Inner, isClosed, isOpen, isFull, isSpent, isDue, afford, inner}
+use Rattle.calculus.specs.Tree.{letters, state, closing, first, full, reduced, due, tests, step, Inner, isClosed, isOpen, isFull, isSpent, isDue, afford, inner}
 use Rattle.question.specs.Positions.{formulaAt}
 use Rattle.sequent.specs.declared.Running.{Running}
 use Rattle.sequent.specs.declared.Rule.{Rule}
@@ -27,7 +27,7 @@ use Rattle.sequent.proofs.Premises.{ones}
 use Rattle.reduction.specs.declared.Place.the-variants.{At, Nowhere}
 use Rattle.reduction.specs.Reduction.{compoundAt, FoundAt, Found, overfullOf}
 use Rattle.reduction.proofs.Reductions.{places-size, premises-with, overfull}
-use Rattle.prover.specs.Inner.{innerOf, ReadyAt}
+use Rattle.prover.specs.Inner.{ReadyAt}
 
 -- ---- FULL
 

@@ -1,25 +1,25 @@
 -- The sides of an accepted question, and its formulas, where they stand in the bytes.
 -- Assumes nothing.
 use mathlib.Core.Path.{_≡_, refl, sym, ap, _∙_}
-use mathlib.Core.Option.{Option, none, some}
+use mathlib.Core.Option.{none, some}
 use mathlib.Core.List.{List, [], _∷_, _++_, append-assoc, append-nil}
 use Prim.Native.Nat.{ℕ, zero, suc, _+_, _-_, _≤_, _<_}
 use native.Mathlib.Decide.{decLt}
 use native.Mathlib.Omega.{arith}
 use lib.ListN.{length, take, drop, getD, getElem?, length-append, length-drop}
-use lib.Seq.{drop-drop, drop-append-add, getD-append-add, take-append-seam, drop-append-seam, take-length, drop-nil}
+use lib.Seq.{drop-drop, drop-append-add, getD-append-add, take-append-seam, take-length}
 use Rattle.calculus.specs.declared.Side.{Side}
 use Rattle.calculus.specs.declared.Side.the-variants.{Left, Right}
 use Rattle.calculus.specs.declared.Part.{Part}
 use Rattle.calculus.specs.Syntax.{Formula, Sequent, on-side}
 use Rattle.calculus.specs.Bytes.{encode, encodeAll, encodeSide, encodeSequent, formulas, bytes, bytesAll, question, sideStart, startOf}
 use Rattle.calculus.specs.Reading.{Reading, accepted, refused, reading}
-use Rattle.calculus.specs.Reply.{partOf, partIf, formulaPart, ownBytes, formulaBytes}
+use Rattle.calculus.specs.Reply.{formulaPart, formulaBytes}
 use Rattle.calculus.proofs.Readings.{accepted-question}
 use Rattle.question.specs.declared.Reading.{Reading as Answer}
 use Rattle.question.specs.declared.Reading.the-variants.{Accepted, Refused}
 use Rattle.question.specs.Answers.{numberOf, placeOf, readingOf}
-use Rattle.question.specs.Positions.{Well, firstOf, formulaAt, endOf, partBytes}
+use Rattle.question.specs.Positions.{Well, firstOf, formulaAt, partBytes}
 use Rattle.question.proofs.Walks.{skip-formulas, end-inside}
 
 -- a side's formulas are those spelt from where it starts

@@ -3,7 +3,7 @@
 use mathlib.Core.Path.{_≡_, refl, sym, ap, _∙_}
 use mathlib.Core.Bool.{Bool, true, false}
 use mathlib.Core.Option.{Option, none, some}
-use mathlib.Core.List.{List, [], _∷_}
+use mathlib.Core.List.{List}
 use Prim.Native.Nat.{ℕ, zero, suc, _+_, _-_, _≤_, _<_}
 use native.Mathlib.Numerals.{add-one, sub-one}
 use native.Mathlib.Omega.{arith}
@@ -16,12 +16,12 @@ use Rattle.calculus.specs.declared.Side.the-variants.{Left, Right}
 use Rattle.calculus.specs.declared.Expected.{Expected}
 use Rattle.calculus.specs.declared.Expected.the-variants.{Head, Count, Formula, Operand, End}
 use Rattle.calculus.specs.Fold.{choose}
-use Rattle.calculus.specs.Limits.{LONGEST, FORMULAS, CONNECTIVES, LETTERS, WRONG-COMMAND, MANY-FORMULAS, NO-SUCH-LETTER, MANY-CONNECTIVES, LEFT-OVER, CUT}
+use Rattle.calculus.specs.Limits.{LONGEST, FORMULAS, CONNECTIVES, LETTERS, WRONG-COMMAND, MANY-FORMULAS, NO-SUCH-LETTER, MANY-CONNECTIVES, CUT}
 use Rattle.calculus.specs.Syntax.{AND, OR, IMPLIES, EQUIV, Connective, NOT, two}
 use Rattle.calculus.specs.Bytes.{Command, SIDE, LETTER, CONNECTIVE, code, command}
-use Rattle.calculus.specs.Reading.{Onward, refuse, onward, after, begin, advance, Reading, accepted, refused, ended, goOn, read, reading}
+use Rattle.calculus.specs.Reading.{Onward, refuse, onward, after, begin, advance, refused, ended, goOn, read, reading}
 use Rattle.calculus.proofs.Spelling.{command-byte}
-use Rattle.question.specs.Answers.{Moved, stopped, moved, moves, dueIn}
+use Rattle.question.specs.Answers.{stopped, moved, moves, dueIn}
 
 -- ---- bytes 2 to 6
 

@@ -1,24 +1,19 @@
 -- Formulas at positions: what stands behind n formulas, and what a walk over commands passes.
 -- Assumes nothing.
-use mathlib.Core.Path.{_≡_, refl, sym, ap, _∙_, subst}
-use mathlib.Core.Bool.{Bool, true, false}
+use mathlib.Core.Path.{_≡_, refl, sym, ap, _∙_}
 use mathlib.Core.Option.{Option, none, some}
-use mathlib.Core.List.{List, [], _∷_, _++_, append-assoc, append-nil}
+use mathlib.Core.List.{List, [], _∷_, append-assoc, append-nil}
 use Prim.Native.Nat.{ℕ, zero, suc, _+_, _-_, _≤_, _<_}
 use native.Mathlib.Numerals.{add-one, one-add}
 use native.Mathlib.Nat.{add-zero}
 use native.Mathlib.Omega.{arith}
 use lib.Dec.{eqb}
-use lib.ListN.{length, take, drop, getD, getElem?, length-append, length-drop}
-use lib.Seq.{drop-drop, drop-nil, getD-drop, take-length}
-use borrow.Author.Tests.{eq-eqb, ne-eqb}
-use Rattle.calculus.specs.declared.Side.{Side}
-use Rattle.calculus.specs.Fold.{choose}
+use lib.ListN.{length, take, drop, getD, length-drop}
+use lib.Seq.{drop-drop, getD-drop}
 use Rattle.calculus.specs.Syntax.{Binary, AND, OR, IMPLIES, EQUIV, Connective, NOT, two, Formula, letter, neg, join}
 use Rattle.calculus.specs.Bytes.{Command, SIDE, LETTER, CONNECTIVE, code, command, encode, encodeAll, attach, spell, formulas, bytes, bytesAll}
-use Rattle.calculus.proofs.Spelling.{command-byte, formulas-attach}
-use Rattle.question.specs.Positions.{Well, firstOf, formulaAt, endOf, commandLength, dueAfter}
-use Rattle.question.proofs.Readers.{connective-range}
+use Rattle.calculus.proofs.Spelling.{command-byte}
+use Rattle.question.specs.Positions.{Well, firstOf, endOf, commandLength, dueAfter}
 
 -- ---- one command of a list of bytes that spells more than m formulas
 

@@ -1,20 +1,18 @@
 -- Compounds: the first of a side, and the parts of one at a position.
 -- Assumes nothing.
 use mathlib.Core.Path.{_≡_, refl, sym, ap, _∙_, subst}
-use mathlib.Core.Option.{Option, some, none}
-use mathlib.Core.List.{List, [], _∷_, _++_, map}
+use mathlib.Core.Option.{some, none}
+use mathlib.Core.List.{List, [], _∷_, map}
 use Prim.Native.Nat.{ℕ, zero, suc, _+_, _-_, _≤_, _<_}
-use native.Mathlib.Numerals.{add-one}
 use native.Mathlib.Omega.{arith}
 use lib.ListN.{length, take, drop, getD, getElem?, length-take, drop-of-length-le, length-map}
 use lib.Seq.{getD-take}
 use Rattle.calculus.specs.declared.Side.{Side}
-use Rattle.calculus.specs.declared.Side.the-variants.{Left, Right}
 use Rattle.calculus.specs.Fold.{Each}
-use Rattle.calculus.specs.Limits.{ROOM, LONGEST}
+use Rattle.calculus.specs.Limits.{ROOM}
 use Rattle.calculus.specs.Syntax.{Connective, NOT, two, Formula, letter, neg, join, Compound, compound, whole}
-use Rattle.calculus.specs.Bytes.{CONNECTIVE, code, Lettered}
-use Rattle.calculus.specs.Tree.{First, missing, here, later, first}
+use Rattle.calculus.specs.Bytes.{Lettered}
+use Rattle.calculus.specs.Tree.{missing, here, later, first}
 use Rattle.question.specs.Positions.{Well, formulaAt, endOf}
 use Rattle.question.proofs.Parts.{At, a-letter, a-compound, at-position, letter-at, PartsAt, is-not, is-two}
 use Rattle.question.proofs.Readers.{connective-range}

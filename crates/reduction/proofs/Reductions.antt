@@ -1,30 +1,29 @@
 -- A reduction of the running sequent is document 01's: its premises, and their sizes.
 -- Assumes nothing.
-use mathlib.Core.Path.{_≡_, refl, sym, ap, _∙_, fun-ext}
+use mathlib.Core.Path.{_≡_, refl, sym, ap, _∙_}
 use mathlib.Core.Bool.{Bool, true, false, _||_, or-false}
-use mathlib.Core.Option.{some}
 use mathlib.Core.List.{List, [], _∷_, _++_, map, map-append}
-use Prim.Native.Nat.{ℕ, zero, suc, _+_, _-_, _≤_, _<_}
+use Prim.Native.Nat.{ℕ, suc, _+_, _-_, _<_}
 use native.Mathlib.Decide.{decLt}
 use native.Mathlib.Omega.{arith}
 use lib.Dec.{eqb, ltb}
-use lib.ListN.{length, take, drop, getD, getElem?, length-append, length-take, length-drop, length-map}
+use lib.ListN.{length, take, drop, length-append, length-take, length-drop, length-map}
 use borrow.Author.Tests.{lt-ltb, le-ltb}
 use Rattle.calculus.specs.declared.Side.{Side}
 use Rattle.calculus.specs.declared.Side.the-variants.{Left, Right}
-use Rattle.calculus.specs.Fold.{fold, ANY, SUM, Each, choose}
+use Rattle.calculus.specs.Fold.{fold, ANY, SUM, choose}
 use Rattle.calculus.specs.Limits.{ROOM}
-use Rattle.calculus.specs.Syntax.{other, Formula, Compound, whole, Seq, Sequent, on-side, size}
+use Rattle.calculus.specs.Syntax.{Formula, Compound, Seq, Sequent, on-side, size}
 use Rattle.calculus.specs.Table.{Part, F, G, Put, L, R, table, fill, on, splice, premise, reduct, premises}
 use Rattle.question.specs.Positions.{formulaAt}
 use Rattle.sequent.specs.declared.Running.{Running}
 use Rattle.sequent.specs.declared.Placing.{Placing}
 use Rattle.sequent.specs.declared.Rule.{Rule}
-use Rattle.sequent.specs.View.{view, places, formulasOf, sequentOf, Compounds, Good}
+use Rattle.sequent.specs.View.{view, places, sequentOf}
 use Rattle.sequent.specs.Rule.{sideCode, keep, partsOn, premiseOf, premisesOf, sided, placed}
 use Rattle.sequent.proofs.Premises.{ones, on-left, on-right, map-splice}
 use Rattle.reduction.specs.declared.Reduction.{Reduction}
-use Rattle.reduction.specs.Reduction.{compoundAt, mapSeq, part, insert, premiseBy, Reduces, FoundAt, countOne, overfullOf}
+use Rattle.reduction.specs.Reduction.{compoundAt, mapSeq, part, insert, premiseBy, Reduces, countOne, overfullOf}
 
 -- ---- counting parts
 

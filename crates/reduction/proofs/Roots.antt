@@ -12,11 +12,11 @@ use Rattle.calculus.specs.declared.Side.the-variants.{Left, Right}
 use Rattle.calculus.specs.Fold.{Each}
 use Rattle.calculus.specs.Limits.{ROOM, LONGEST, FORMULAS}
 use Rattle.calculus.specs.Syntax.{other, Formula, letter, Sequent, on-side}
-use Rattle.calculus.specs.Bytes.{Lettered, question, sideStart, startOf, bytesAll, bytes, encode, encodeAll, encodeSequent, Within}
+use Rattle.calculus.specs.Bytes.{Lettered, question, startOf, bytesAll, bytes, encode, encodeAll}
 use Rattle.calculus.specs.Reading.{reading, accepted}
 use Rattle.calculus.proofs.Readings.{accepted-question}
 use Rattle.calculus.proofs.Spelling.{longest}
-use Rattle.question.specs.Positions.{Well, firstOf, formulaAt, endOf}
+use Rattle.question.specs.Positions.{firstOf, formulaAt, endOf}
 use Rattle.question.proofs.Questions.{place-formulas, place-well}
 use Rattle.sequent.specs.declared.Running.{Running}
 use Rattle.sequent.specs.View.{lane, view, countOf, maskOf, formulasOf, sequentOf, Stands, Good, Pushed}

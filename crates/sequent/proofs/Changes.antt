@@ -12,8 +12,7 @@ use Rattle.calculus.specs.Limits.{ROOM}
 use Rattle.calculus.specs.Syntax.{other}
 use Rattle.calculus.specs.Table.{splice}
 use Rattle.sequent.specs.declared.Running.{Running}
-use Rattle.sequent.specs.declared.Parts.{Parts}
-use Rattle.sequent.specs.View.{lane, slotOf, countOf, maskOf, view, settled, partsView, Opened, Shut, Changed}
+use Rattle.sequent.specs.View.{lane, slotOf, countOf, maskOf, view, settled, Opened, Shut, Changed}
 use Rattle.sequent.proofs.Lanes.{lane-length, slot-set, slot-aside, splice-none, splice-one, splice-two, end-one, end-two}
 
 pub sides : (t : Side) (s : Running) → countOf t s + countOf (other t) s ≡ s .lefts + s .rights

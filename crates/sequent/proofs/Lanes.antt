@@ -4,11 +4,11 @@ use mathlib.Core.Path.{_≡_, refl, sym, ap, _∙_}
 use mathlib.Core.List.{List, [], _∷_, _++_, append-assoc, append-nil}
 use Prim.Native.Nat.{ℕ, zero, suc, _+_, _-_, _≤_, _<_}
 use native.Mathlib.Decide.{decLt}
-use native.Mathlib.Nat.{add-zero, sub-zero}
+use native.Mathlib.Nat.{add-zero}
 use native.Mathlib.Numerals.{add-one}
 use native.Mathlib.Omega.{arith}
-use lib.ListN.{length, take, drop, getD, set, length-append, length-set, length-take, length-drop, List·getD-append, drop-of-length-le}
-use lib.Seq.{set-at, getD-at, set-append-left, take-set-le, drop-set-lt, take-set-lt, getD-take, drop-cons, take-suc, getD-set-same, take-suc-set, drop-set-add, drop-append-le, take-take, getD-drop, drop-drop, set-split}
+use lib.ListN.{length, take, drop, getD, set, length-append, length-set, length-take, List·getD-append, drop-of-length-le}
+use lib.Seq.{set-at, getD-at, set-append-left, take-set-le, drop-set-lt, take-set-lt, getD-take, drop-cons, take-suc, getD-set-same, take-suc-set, drop-append-le, take-take, getD-drop, drop-drop, set-split}
 use Rattle.calculus.specs.declared.Side.{Side}
 use Rattle.calculus.specs.declared.Side.the-variants.{Left, Right}
 use Rattle.calculus.specs.Limits.{ROOM}

@@ -2,17 +2,17 @@
 -- Assumes nothing.
 use mathlib.Core.Path.{_≡_, refl, sym, ap, _∙_}
 use mathlib.Core.Option.{some, Option·none-ne-some}
-use mathlib.Core.List.{List, [], _∷_, _++_, map}
-use Prim.Native.Nat.{ℕ, zero, suc, _+_, _*_, _/_, _%_, _^_, max, _≤_, _<_}
+use mathlib.Core.List.{List, [], _∷_}
+use Prim.Native.Nat.{ℕ, zero, suc, _+_, _/_, _%_, _^_, max, _<_}
 use native.Mathlib.Nat.{pow-suc}
 use native.Mathlib.Omega.{arith}
 use lib.Bits.{bitOr, or-step, or-zero-l, or-comm}
-use lib.ListN.{take, drop, getElem?}
+use lib.ListN.{getElem?}
 use Rattle.calculus.specs.Fold.{Monoid, fold}
 use Rattle.calculus.specs.Syntax.{Formula, letter, neg, join}
 use Rattle.calculus.specs.Table.{splice}
 use Rattle.calculus.specs.Tree.{letters, light, state}
-use Rattle.calculus.proofs.Folds.{fold-append, left-comm}
+use Rattle.calculus.proofs.Folds.{fold-append}
 use Rattle.calculus.proofs.Trees.{light-or}
 use Rattle.sequent.specs.View.{bitOf}
 

@@ -1,27 +1,27 @@
 -- A premise of the running sequent is the premise of the sequent that it stands for.
 -- Assumes nothing.
-use mathlib.Core.Path.{_≡_, refl, sym, ap, _∙_, subst}
+use mathlib.Core.Path.{_≡_, refl, sym, ap, _∙_}
 use mathlib.Core.Bool.{Bool, true, false}
-use mathlib.Core.Option.{Option, some, none}
-use mathlib.Core.List.{List, [], _∷_, _++_, map, map-append, append-nil}
+use mathlib.Core.Option.{some, none}
+use mathlib.Core.List.{List, [], _∷_, _++_, map, map-append}
 use Prim.Native.Nat.{ℕ, zero, suc, _+_, _*_, _%_, _^_, _≤_, _<_}
 use native.Mathlib.Nat.{one-mul, mod-eq-of-lt}
 use native.Mathlib.Omega.{arith}
 use lib.Bits.{bitOr, or-zero-r}
 use lib.Dec.{eqb}
-use lib.ListN.{length, take, drop, getD, getElem?, length-append, length-take}
+use lib.ListN.{length, take, getD, getElem?, length-append, length-take}
 use lib.Pow.{pow-lt}
 use borrow.Author.Tests.{eq-eqb, ne-eqb}
 use Rattle.calculus.specs.declared.Side.{Side}
 use Rattle.calculus.specs.declared.Side.the-variants.{Left, Right}
 use Rattle.calculus.specs.Fold.{fold, SUM, Each}
-use Rattle.calculus.specs.Limits.{ROOM, LETTERS, LONGEST}
-use Rattle.calculus.specs.Syntax.{other, Connective, NOT, two, Formula, letter, neg, join, Compound, compound, whole, Seq, on-side, size}
-use Rattle.calculus.specs.Bytes.{Lettered, code, LETTER}
-use Rattle.calculus.specs.Table.{Put, L, R, on, splice, premise}
+use Rattle.calculus.specs.Limits.{ROOM, LETTERS}
+use Rattle.calculus.specs.Syntax.{other, Connective, NOT, two, Formula, letter, Compound, compound, whole, size}
+use Rattle.calculus.specs.Bytes.{LETTER}
+use Rattle.calculus.specs.Table.{L, R, on, splice, premise}
 use Rattle.calculus.specs.Tree.{letters, state}
 use Rattle.calculus.proofs.Folds.{each-append}
-use Rattle.question.specs.Positions.{Well, formulaAt}
+use Rattle.question.specs.Positions.{formulaAt}
 use Rattle.question.proofs.Parts.{At, a-letter, a-compound, at-position, letter-at}
 use Rattle.sequent.specs.declared.Running.{Running}
 use Rattle.sequent.specs.declared.Parts.{Parts}

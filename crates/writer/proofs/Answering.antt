@@ -1,7 +1,6 @@
 -- What a theorem's derivation needs, and the answers of the call that writes it.
 -- Assumes nothing.
-use mathlib.Core.Path.{_≡_, refl, sym, ap, _∙_, subst}
-use mathlib.Core.Logic.{_≢_}
+use mathlib.Core.Path.{_≡_, refl, sym, ap, _∙_}
 use mathlib.Core.Bool.{Bool, true, false}
 use mathlib.Core.List.{List, [], _∷_, _++_}
 use Prim.Native.Nat.{ℕ, _+_, _*_, _^_, _≤_, _<_}
@@ -23,7 +22,7 @@ use Rattle.calculus.specs.Fold.{choose}
 use Rattle.calculus.specs.Limits.{CONNECTIVES}
 use Rattle.calculus.specs.Syntax.{Sequent, c}
 use Rattle.calculus.specs.Bytes.{question}
-use Rattle.calculus.specs.Reading.{Reading, accepted, refused, reading}
+use Rattle.calculus.specs.Reading.{accepted, refused, reading}
 use Rattle.calculus.specs.Tree.{tree, reductions, closings, verdict}
 use Rattle.calculus.specs.Width.{W}
 use Rattle.calculus.specs.Derivation.{derivation, checking}

@@ -1,23 +1,19 @@
 -- The bytes of a derivation, laid one after the other.
 -- Assumes nothing.
 use mathlib.Core.Path.{_≡_, refl, sym, ap, _∙_, subst}
-use mathlib.Core.Logic.{_≢_}
-use mathlib.Core.Option.{Option, none, some}
 use mathlib.Core.List.{List, [], _∷_, _++_, append-assoc, append-nil}
-use Prim.Native.Nat.{ℕ, zero, suc, _+_, _*_, _-_, _^_, _≤_, _<_}
-use native.Mathlib.Nat.{add-assoc}
+use Prim.Native.Nat.{ℕ, suc, _+_, _-_, _^_, _≤_, _<_}
 use native.Mathlib.Numerals.{add-one}
 use native.Mathlib.Omega.{arith}
-use lib.ListN.{length, take, drop, set, getElem?, length-append, length-take, length-drop, length-set}
-use lib.Seq.{take-at, drop-at, take-append-le, drop-append-le, take-take, drop-drop, set-split, take-suc-set, take-set-le, drop-set-lt, drop-append-add}
+use lib.ListN.{length, take, drop, set, length-append, length-take, length-drop, length-set}
+use lib.Seq.{take-at, drop-drop, set-split, take-suc-set, drop-set-lt, drop-append-add}
 use Rattle.calculus.specs.declared.Side.{Side}
 use Rattle.calculus.specs.declared.Kind.{Kind}
 use Rattle.calculus.specs.declared.Kind.the-variants.{Theorem, Refuted, Spent, Full}
-use Rattle.calculus.specs.Fold.{Each, choose}
 use Rattle.calculus.specs.Limits.{LETTERS, ROOM}
 use Rattle.calculus.specs.Syntax.{Compound, Sequent}
 use Rattle.calculus.specs.Table.{premises}
-use Rattle.calculus.specs.Tree.{letters, state, among, common, closing, Step, closed, opened, full, reduced, step, Event, close, reduce, Tree, follow, chain, under, grow, tree, Inner, isClosed, isOpen, isFull, isSpent, isDue, afford, inner}
+use Rattle.calculus.specs.Tree.{letters, state, Step, closed, opened, full, reduced, step, Event, close, reduce, Tree, follow, chain, under, grow, tree, Inner, isClosed, isOpen, isFull, isSpent, isDue, afford, inner}
 use Rattle.calculus.specs.Derivation.{CLOSE, REDUCE, orderCode, written, writtenAll, derivation}
 use Rattle.calculus.proofs.Derivations.{writtenAll-append}
 use Rattle.calculus.proofs.Trees.{tree-grows, right-step, bit-state}

@@ -11,11 +11,6 @@ use Rattle.prover.proofs.Steps.{due-full, due-spent, due-reduce, due-re
 use borrow.Author.Needs.{needs}
 use Rattle.prover.proofs.due_at.Statement.{statement}
 use Rattle.prover.proofs.due_at.Tie as tie
-use Rattle.prover.proofs.due_at.Reads as reads
-use Rattle.prover.proofs.due_at.Lts as lts
-use Rattle.prover.proofs.overfull.Reads as overfull-reads
-use Rattle.prover.proofs.wide.Reads as wide-reads
-use Rattle.sequent.proofs.rule_of.Reads as rule-of-reads
 
 size-at : (c : tie.Start) → length (c .args .s .items) ≡ ROOM
 size-at c = search needs
@@ -27,35 +22,27 @@ byte-now c =
     let f = c .before .before .before .pre .1 in
     rw (c .before .wide .ensures) (sym (compound-parts (a .q .now) (a .p) (f .stands .well) (f .compound) .byte))
 
--- src/lib.rt:60:35
 wide-requires : tie.Need-wide-requires
 wide-requires c κs = search needs
 
--- src/lib.rt:60:33
 shared-slice-read-rule-of : tie.Need-shared-slice-read-rule-of
 shared-slice-read-rule-of c = let a = c .before .before .before .args in let h = c .before .before .before .pre in omega (arith, c .before .wide .ensures, well-inside (a .q .now) (a .p) (h .1 .stands .well))
 
--- src/lib.rt:60:9
 rule-of-requires : tie.Need-rule-of-requires
 rule-of-requires c κs = let a = c .before .before .before .args in let h = c .before .before .before .pre in rw (c .before .wide .ensures) (byte-range (a .q .now) (a .p) (h .1 .stands .well) (h .1 .compound))
 
--- src/lib.rt:61:23
 add-overfull : tie.Need-add-overfull
 add-overfull c = search needs
 
--- src/lib.rt:61:8
 overfull-requires : tie.Need-overfull-requires
 overfull-requires c κs = search needs
 
--- src/lib.rt:62:9
 returns : tie.Need-returns
 returns c = let a = c .before .before .before .before .before .before .before .args in let h = c .before .before .before .before .before .before .before .pre in (due-full (a .q .now) (a .s) (h .0) (size-at (c .before .before .before .before .before .before .before)) (a .side) (a .at) (a .p) (h .1) (c .before .before .before .rule-of .result) (c .before .before .before .rule-of .ensures (compoundAt (a .q .now) (a .p) .connective) (byte-now (c .before .before .before .before))) (c .before .overfull .result) (c .before .overfull .ensures) (a .left) (c .if1 .taken), tt)
 
--- src/lib.rt:65:9
 returns-2 : tie.Need-returns-2
 returns-2 c = let a = c .before .before .before .before .before .before .before .before .args in let h = c .before .before .before .before .before .before .before .before .pre in (due-spent (a .q .now) (a .s) (h .0) (size-at (c .before .before .before .before .before .before .before .before)) (a .side) (a .at) (a .p) (h .1) (c .before .before .before .before .rule-of .result) (c .before .before .before .before .rule-of .ensures (compoundAt (a .q .now) (a .p) .connective) (byte-now (c .before .before .before .before .before))) (c .before .before .overfull .result) (c .before .before .overfull .ensures) (a .left) (c .before .if1 .left) (c .if2 .taken), tt)
 
--- src/lib.rt:56:1
 returns-3 : tie.Need-returns-3
 returns-3 c = let a = c .before .before .before .before .before .before .before .before .args in let h = c .before .before .before .before .before .before .before .before .pre in (due-reduce (a .q .now) (a .s) (h .0) (size-at (c .before .before .before .before .before .before .before .before)) (a .side) (a .at) (a .p) (h .1) (c .before .before .before .before .rule-of .result) (c .before .before .before .before .rule-of .ensures (compoundAt (a .q .now) (a .p) .connective) (byte-now (c .before .before .before .before .before))) (c .before .before .overfull .result) (c .before .before .overfull .ensures) (a .left) (c .before .if1 .left) (c .if2 .left), due-ready (a .q .now) (a .s) (h .0) (size-at (c .before .before .before .before .before .before .before .before)) (a .side) (a .at) (a .p) (h .1) (c .before .before .before .before .rule-of .result) (c .before .before .before .before .rule-of .ensures (compoundAt (a .q .now) (a .p) .connective) (byte-now (c .before .before .before .before .before))) (c .before .before .overfull .result) (c .before .before .overfull .ensures) (a .left) (c .before .if1 .left) (c .if2 .left))
 

@@ -1,7 +1,6 @@
 use mathlib.Core.Path.{ap}
 use Prim.Native.Nat.{_-_}
 use Rattle.calculus.specs.declared.Outcome.{Outcome}
-use Rattle.calculus.specs.declared.Verdict.{Verdict}
 use Rattle.prover.proofs.Decisions.{budget-left}
 use borrow.Author.Needs.{needs}
 use Rattle.prover.proofs.verdict_of.Statement.{statement}

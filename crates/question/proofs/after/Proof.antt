@@ -3,30 +3,22 @@ use Rattle.question.proofs.Readers.{after-more, after-none}
 use borrow.Author.Needs.{needs}
 use Rattle.question.proofs.after.Statement.{statement}
 use Rattle.question.proofs.after.Tie as tie
-use Rattle.question.proofs.after.Reads as reads
-use Rattle.question.proofs.after.Lts as lts
 
--- src/lib.rt:56:40
 sub-t4 : tie.Need-sub-t4
 sub-t4 c = search needs
 
--- src/lib.rt:56:9
 returns : tie.Need-returns
 returns c = after-more (c .before .args .side) (c .before .args .n) (c .if1 .taken)
 
--- src/lib.rt:59:38
 enum-told : tie.Need-enum-told
 enum-told c = search needs
 
--- src/lib.rt:60:24
 enum-told-2 : tie.Need-enum-told-2
 enum-told-2 c = search needs
 
--- src/lib.rt:52:1
 returns-2 : tie.Need-returns-2
 returns-2 c = let a = c .before .before .before .args in rw (c .enum-told .given .1) (after-none Left (a .n) (c .before .before .if1 .left))
 
--- src/lib.rt:52:1
 returns-3 : tie.Need-returns-3
 returns-3 c = let a = c .before .before .before .args in rw (c .enum-told2 .given .1) (after-none Right (a .n) (c .before .before .if1 .left))
 

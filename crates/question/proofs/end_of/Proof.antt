@@ -6,15 +6,10 @@ use Rattle.question.proofs.Walks.{first-bytes}
 use borrow.Author.Needs.{needs}
 use Rattle.question.proofs.end_of.Statement.{statement}
 use Rattle.question.proofs.end_of.Tie as tie
-use Rattle.question.proofs.end_of.Reads as reads
-use Rattle.question.proofs.end_of.Lts as lts
-use Rattle.question.proofs.skip.Reads as skip-reads
 
--- src/lib.rt:231:5
 skip-requires : tie.Need-skip-requires
 skip-requires c κs = search needs
 
--- src/lib.rt:227:1
 returns : tie.Need-returns
 returns c = let a = c .before .before .args in c .skip .ensures ∙ ap (λ (n : ℕ). a .at + n) (first-bytes (formulas (drop (a .at) (a .q .now))) (c .before .before .pre))
 

@@ -11,13 +11,6 @@ use Rattle.question.proofs.Questions.{side-formulas, place-well, place-
 use borrow.Author.Needs.{needs}
 use Rattle.question.proofs.formula_part.Statement.{statement}
 use Rattle.question.proofs.formula_part.Tie as tie
-use Rattle.question.proofs.formula_part.Reads as reads
-use Rattle.question.proofs.formula_part.Lts as lts
-use Rattle.question.proofs.end_of.Reads as end-of-reads
-use Rattle.question.proofs.read.Reads as read-reads
-use Rattle.question.proofs.side_count.Reads as side-count-reads
-use Rattle.question.proofs.side_start.Reads as side-start-reads
-use Rattle.question.proofs.skip.Reads as skip-reads
 
 -- what is known once the question is accepted
 accepted-now : (c : tie.After-enum-told) → reading (c .before .before .before .before .args .q .now) ≡ accepted
@@ -27,46 +20,36 @@ accepted-now c = sym (c .before .before .read .ensures) ∙ ap readingOf (c .enu
 place-now : (c : tie.After-skip) → c .skip .result ≡ startOf (c .before .before .before .before .before .before .before .before .args .side) (c .before .before .before .before .before .before .before .before .args .place) (question (c .before .before .before .before .before .before .before .before .args .q .now))
 place-now c = let a = c .before .before .before .before .before .before .before .before .args in rw (side-formulas (a .q .now) (a .side)) at (rw (c .before .before .before .side-start .ensures) at (c .skip .ensures))
 
--- src/lib.rt:259:9
 read-requires : tie.Need-read-requires
 read-requires c κs = search needs
 
 enum-told : tie.Need-enum-told
 enum-told c = search needs
 
--- src/lib.rt:261:9
 enum-told-2 : tie.Need-enum-told-2
 enum-told-2 c = search needs
 
--- src/lib.rt:261:9
 returns : tie.Need-returns
 returns c = let a = c .before .before .before .before .args in part-refused-by (a .q .now) (a .side) (a .place) (c .before .before .read .result) (c .before .before .read .ensures) (λ e. miss (1 ∷ []) 0 tt (rw e at (c .before .match .keys2)))
 
--- src/lib.rt:263:9
 side-start-requires : tie.Need-side-start-requires
 side-start-requires c κs = accepted-now c
 
--- src/lib.rt:264:9
 side-count-requires : tie.Need-side-count-requires
 side-count-requires c κs = (accepted-now (c .before), c .side-start .ensures)
 
--- src/lib.rt:266:9
 returns-2 : tie.Need-returns-2
 returns-2 c = let a = c .before .before .before .before .before .before .before .args in part-none (a .q .now) (accepted-now (c .before .before .before)) (a .side) (a .place) (omega (arith, c .before .side-count .ensures))
 
--- src/lib.rt:268:9
 skip-requires : tie.Need-skip-requires
 skip-requires c κs = let a = c .before .before .before .before .before .before .before .args in rw (c .before .before .side-start .ensures, side-formulas (a .q .now) (a .side)) (omega (arith, c .before .side-count .ensures))
 
--- src/lib.rt:271:16
 end-of-requires : tie.Need-end-of-requires
 end-of-requires c κs = let a = c .before .before .before .before .before .before .before .before .args in rw (place-now c) (place-well (a .q .now) (accepted-now (c .before .before .before .before)) (a .side) (a .place) (omega (arith, c .before .before .side-count .ensures)))
 
--- src/lib.rt:271:16
 sub-t10 : tie.Need-sub-t10
 sub-t10 c = search needs
 
--- src/lib.rt:256:1
 returns-3 : tie.Need-returns-3
 returns-3 c =
     let a = c .before .before .before .before .before .before .before .before .before .args in

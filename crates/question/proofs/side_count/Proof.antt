@@ -6,23 +6,16 @@ use Rattle.question.proofs.Questions.{side-count, side-inside}
 use borrow.Author.Needs.{needs}
 use Rattle.question.proofs.side_count.Statement.{statement}
 use Rattle.question.proofs.side_count.Tie as tie
-use Rattle.question.proofs.side_count.Reads as reads
-use Rattle.question.proofs.side_count.Lts as lts
-use Rattle.question.proofs.wide.Reads as wide-reads
 
--- src/lib.rt:250:12
 sub-wide : tie.Need-sub-wide
 sub-wide c = omega (arith, c .before .pre .1, side-inside (c .before .args .q .now) (c .before .pre .0) (c .before .args .side))
 
--- src/lib.rt:250:10
 shared-slice-read-wide : tie.Need-shared-slice-read-wide
 shared-slice-read-wide c = omega (arith, c .before .before .pre .1, side-inside (c .before .before .args .q .now) (c .before .before .pre .0) (c .before .before .args .side))
 
--- src/lib.rt:250:5
 wide-requires : tie.Need-wide-requires
 wide-requires c κs = search needs
 
--- src/lib.rt:246:1
 returns : tie.Need-returns
 returns c = c .wide .ensures ∙ ap (λ (n : ℕ). getD (c .before .before .before .args .q .now) (n - 1) 0) (c .before .before .before .pre .1) ∙ side-count (c .before .before .before .args .q .now) (c .before .before .before .pre .0) (c .before .before .before .args .side)
 

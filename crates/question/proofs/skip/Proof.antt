@@ -1,16 +1,12 @@
 use native.Mathlib.Nat.{add-zero}
-use mathlib.Core.Path.{_≡_, refl, sym, ap, _∙_}
-use Prim.Native.Nat.{ℕ, suc, _+_, _-_, _≤_, _<_}
+use mathlib.Core.Path.{_≡_, refl, _∙_}
+use Prim.Native.Nat.{_+_, _-_, _≤_}
 use native.Mathlib.Omega.{arith}
-use lib.ListN.{length, take, drop, getD}
+use lib.ListN.{length, take, drop}
 use Rattle.calculus.specs.Bytes.{formulas, bytesAll}
-use Rattle.question.proofs.Walks.{walked-at, Stepped}
+use Rattle.question.proofs.Walks.{walked-at}
 use Rattle.question.proofs.skip.Statement.{statement}
 use Rattle.question.proofs.skip.Tie as tie
-use Rattle.question.proofs.skip.Reads as reads
-use Rattle.question.proofs.skip.Lts as lts
-use Rattle.question.proofs.command_length.Reads as command-length-reads
-use Rattle.question.proofs.due_after.Reads as due-after-reads
 
 abbrev Inv-loop : tie.InvT-loop
 Inv-loop q at n i₀ due₀ i due = (due ≤ length (formulas (drop i q))) × (i + bytesAll (take due (formulas (drop i q))) ≡ at + bytesAll (take n (formulas (drop at q))))
@@ -18,37 +14,29 @@ Inv-loop q at n i₀ due₀ i due = (due ≤ length (formulas (drop i q))) × (i
 abbrev μ-loop : tie.MeasureT-loop
 μ-loop q at n i₀ due₀ i due = length q - i
 
--- src/lib.rt:218:5
 loop-holds : tie.Need-loop-holds Inv-loop μ-loop
 loop-holds c = (c .before .pre, refl)
 
--- src/lib.rt:219:17
 shared-slice-read-b : tie.Need-shared-slice-read-b Inv-loop μ-loop
 shared-slice-read-b c = let l = c .before .before .loop in (walked-at (c .before .before .before .before .args .q .now) (l .i) (l .due) (c .before .loop-test .taken) (l .inv .0)) .inside
 
--- src/lib.rt:220:14
 command-length-requires : tie.Need-command-length-requires Inv-loop μ-loop
 command-length-requires c κs = tt
 
--- src/lib.rt:220:9
 add-i : tie.Need-add-i Inv-loop μ-loop
 add-i c = omega (arith, (walked-at (c .before .before .before .before .before .args .q .now) (c .before .before .before .loop .i) (c .before .before .before .loop .due) (c .before .before .loop-test .taken) (c .before .before .before .loop .inv .0)) .fits, c .command-length .ensures)
 
--- src/lib.rt:221:9
 due-after-requires : tie.Need-due-after-requires Inv-loop μ-loop
 due-after-requires c κs = omega (arith, (walked-at (c .before .before .before .before .before .args .q .now) (c .before .before .before .loop .i) (c .before .before .before .loop .due) (c .before .before .loop-test .taken) (c .before .before .before .loop .inv .0)) .small)
 
--- src/lib.rt:218:5
 loop-less : tie.Need-loop-less Inv-loop μ-loop
 loop-less c = omega (arith, (walked-at (c .before .before .before .before .before .before .args .q .now) (c .before .before .before .before .loop .i) (c .before .before .before .before .loop .due) (c .before .before .before .loop-test .taken) (c .before .before .before .before .loop .inv .0)) .onward, (walked-at (c .before .before .before .before .before .before .args .q .now) (c .before .before .before .before .loop .i) (c .before .before .before .before .loop .due) (c .before .before .before .loop-test .taken) (c .before .before .before .before .loop .inv .0)) .inside, c .before .command-length .ensures)
 
--- src/lib.rt:218:5
 loop-again : tie.Need-loop-again Inv-loop μ-loop
 loop-again c =
     let w = (walked-at (c .before .before .before .before .before .before .args .q .now) (c .before .before .before .before .loop .i) (c .before .before .before .before .loop .due) (c .before .before .before .loop-test .taken) (c .before .before .before .before .loop .inv .0)) in
     rw (c .due-after .ensures, c .before .command-length .ensures) (w .due, w .sizes ∙ c .before .before .before .before .loop .inv .1)
 
--- src/lib.rt:212:1
 returns : tie.Need-returns Inv-loop μ-loop
 returns c =
     let z : c .before .loop .due ≡ 0 = omega arith in

@@ -9,42 +9,31 @@ use Rattle.reduction.proofs.Compounds.{found-at, found-missing}
 use borrow.Author.Needs.{needs}
 use Rattle.reduction.proofs.first_compound.Statement.{statement}
 use Rattle.reduction.proofs.first_compound.Tie as tie
-use Rattle.reduction.proofs.first_compound.Reads as reads
-use Rattle.reduction.proofs.first_compound.Lts as lts
-use Rattle.reduction.proofs.first_on.Reads as first-on-reads
 
 size-at : (c : tie.Start) → length (c .args .t1 .items) ≡ ROOM
 size-at c = search needs
 
--- src/lib.rt:60:9
 first-on-requires : tie.Need-first-on-requires
 first-on-requires c κs = let a = c .before .before .before .args in let g = c .before .before .before .pre in (omega (arith, g .room), size-at (c .before .before .before), g .stand Left)
 
--- src/lib.rt:62:41
 element-copy-out-t14 : tie.Need-element-copy-out-t14
 element-copy-out-t14 c = search needs
 
--- src/lib.rt:62:9
 returns : tie.Need-returns
 returns c = let a = c .before .before .before .before .before .before .args in found-at (a .q .now) (a .t1) (c .before .before .before .before .before .before .pre) (size-at (c .before .before .before .before .before .before)) Left (c .before .before .first-on .result) (c .before .before .first-on .ensures) _ (c .before .if1 .taken) refl
 
--- src/lib.rt:65:9
 first-on-requires-2 : tie.Need-first-on-requires-2
 first-on-requires-2 c κs = let a = c .before .before .before .before .before .before .before .args in let g = c .before .before .before .before .before .before .before .pre in (omega (arith, g .room), size-at (c .before .before .before .before .before .before .before), g .stand Right)
 
--- src/lib.rt:67:50
 sub-t17 : tie.Need-sub-t17
 sub-t17 c = search needs
 
--- src/lib.rt:67:42
 element-copy-out-t20 : tie.Need-element-copy-out-t20
 element-copy-out-t20 c = search needs
 
--- src/lib.rt:67:9
 returns-2 : tie.Need-returns-2
 returns-2 c = let a = c .before .before .before .before .before .before .before .before .before .before .args in (found-missing (a .q .now) (a .t1) (c .before .before .before .before .before .before .before .before .before .before .pre) (size-at (c .before .before .before .before .before .before .before .before .before .before)) Left (c .before .before .before .before .before .before .first-on .result) (c .before .before .before .before .before .before .first-on .ensures) (c .before .before .before .before .before .if1 .left), found-at (a .q .now) (a .t1) (c .before .before .before .before .before .before .before .before .before .before .pre) (size-at (c .before .before .before .before .before .before .before .before .before .before)) Right (c .before .before .first-on2 .result) (c .before .before .first-on2 .ensures) _ (c .before .if2 .taken) (slot-get (a .t1 .items) (size-at (c .before .before .before .before .before .before .before .before .before .before)) (c .before .before .first-on2 .result) (omega (arith, c .before .before .before .before .before .before .before .before .before .before .pre .room, c .before .if2 .taken)) Right))
 
--- src/lib.rt:55:1
 returns-3 : tie.Need-returns-3
 returns-3 c = let a = c .before .before .before .before .before .before .before .before .before .args in (found-missing (a .q .now) (a .t1) (c .before .before .before .before .before .before .before .before .before .pre) (size-at (c .before .before .before .before .before .before .before .before .before)) Left (c .before .before .before .before .before .first-on .result) (c .before .before .before .before .before .first-on .ensures) (c .before .before .before .before .if1 .left), found-missing (a .q .now) (a .t1) (c .before .before .before .before .before .before .before .before .before .pre) (size-at (c .before .before .before .before .before .before .before .before .before)) Right (c .before .first-on2 .result) (c .before .first-on2 .ensures) (c .if2 .left))
 

@@ -13,12 +13,6 @@ use Rattle.reduction.specs.Reduction.{Loaded}
 use Rattle.reduction.proofs.Roots.{short, few, stands-there, next-start, loading-starts, loading-goes, loading-room}
 use Rattle.reduction.proofs.load.Statement.{statement}
 use Rattle.reduction.proofs.load.Tie as tie
-use Rattle.reduction.proofs.load.Reads as reads
-use Rattle.reduction.proofs.load.Lts as lts
-use Rattle.question.proofs.end_of.Reads as end-of-reads
-use Rattle.question.proofs.side_count.Reads as side-count-reads
-use Rattle.question.proofs.side_start.Reads as side-start-reads
-use Rattle.sequent.proofs.Running.push.Reads as push-reads
 
 abbrev Inv-loop : tie.InvT-loop
 Inv-loop q side at₀ n r₀ i₀ at r i = (i ≤ n) × (at ≡ startOf side i (question q)) × (length (r .items) ≡ ROOM) × Loaded q side i r₀ r
@@ -30,46 +24,36 @@ abbrev μ-loop : tie.MeasureT-loop
 inside-now : (c : tie.In-loop Inv-loop μ-loop) → c .before .loop .i < length (on-side (c .before .before .before .before .before .args .side) (question (c .before .before .before .before .before .args .q .now)))
 inside-now c = omega (arith, c .loop-test .taken, c .before .before .side-count .ensures)
 
--- src/lib.rt:117:9
 side-start-requires : tie.Need-side-start-requires Inv-loop μ-loop
 side-start-requires c κs = c .before .pre .0
 
--- src/lib.rt:118:9
 side-count-requires : tie.Need-side-count-requires Inv-loop μ-loop
 side-count-requires c κs = (c .before .before .pre .0, c .side-start .ensures)
 
--- src/lib.rt:121:5
 loop-holds : tie.Need-loop-holds Inv-loop μ-loop
 loop-holds c = let p = c .before .before .before .pre in (omega arith, c .before .side-start .ensures ∙ sym (add-zero _), search needs, loading-starts (c .before .before .before .args .q .now) (c .before .before .before .pre .0) (c .before .before .before .args .side) (c .before .before .before .args .s) (p .1) (p .2))
 
--- src/lib.rt:122:29
 cast-push : tie.Need-cast-push Inv-loop μ-loop
 cast-push c = let a = c .before .before .before .before .before .args in omega (arith, c .before .loop .inv .1, well-inside (a .q .now) (startOf (a .side) (c .before .loop .i) (question (a .q .now))) (stands-there (c .before .before .before .before .before .args .q .now) (c .before .before .before .before .before .pre .0) (a .side) (c .before .loop .i) (inside-now c) .well), short (c .before .before .before .before .before .args .q .now) (c .before .before .before .before .before .pre .0))
 
--- src/lib.rt:122:9
 push-requires : tie.Need-push-requires Inv-loop μ-loop
 push-requires c κs = let a = c .before .before .before .before .before .args in let v = c .before .loop .inv in (v .3 .good, rw (v .1) (stands-there (c .before .before .before .before .before .args .q .now) (c .before .before .before .before .before .pre .0) (a .side) (c .before .loop .i) (inside-now c)), loading-room (c .before .before .before .before .before .args .q .now) (c .before .before .before .before .before .pre .0) (a .side) (a .s) (c .before .loop .i) (c .before .loop .r) (v .2) (inside-now c) (v .3) (c .before .before .before .before .before .pre .3))
 
--- src/lib.rt:123:9
 end-of-requires : tie.Need-end-of-requires Inv-loop μ-loop
 end-of-requires c κs = let a = c .before .before .before .before .before .before .args in rw (c .before .before .loop .inv .1) (stands-there (c .before .before .before .before .before .before .args .q .now) (c .before .before .before .before .before .before .pre .0) (a .side) (c .before .before .loop .i) (inside-now (c .before)) .well)
 
--- src/lib.rt:124:9
 add-i : tie.Need-add-i Inv-loop μ-loop
 add-i c = omega (arith, inside-now (c .before .before), few (c .before .before .before .before .before .before .before .args .q .now) (c .before .before .before .before .before .before .before .pre .0) (c .before .before .before .before .before .before .before .args .side))
 
--- src/lib.rt:121:5
 loop-less : tie.Need-loop-less Inv-loop μ-loop
 loop-less c = omega (arith, c .before .before .loop-test .taken)
 
--- src/lib.rt:121:5
 loop-again : tie.Need-loop-again Inv-loop μ-loop
 loop-again c =
     let a = c .before .before .before .before .before .before .before .args in
     let v = c .before .before .before .loop .inv in
     (omega (arith, c .before .before .loop-test .taken), c .end-of .ensures ∙ ap (endOf (a .q .now)) (v .1) ∙ next-start (c .before .before .before .before .before .before .before .args .q .now) (c .before .before .before .before .before .before .before .pre .0) (a .side) (c .before .before .before .loop .i) (inside-now (c .before .before)), search needs, loading-goes (c .before .before .before .before .before .before .before .args .q .now) (c .before .before .before .before .before .before .before .pre .0) (a .side) (a .s) (c .before .before .before .loop .i) (c .before .before .before .loop .r) (c .before .push .result) (c .before .before .before .loop .at) (inside-now (c .before .before)) (v .1) (v .3) (c .before .push .ensures))
 
--- src/lib.rt:113:1
 returns : tie.Need-returns Inv-loop μ-loop
 returns c =
     let e : c .before .loop .i ≡ length (on-side (c .before .before .before .before .before .args .side) (question (c .before .before .before .before .before .args .q .now))) = omega (arith, c .before .loop .inv .0, c .loop-test .left, c .before .before .side-count .ensures) in

@@ -5,39 +5,28 @@ use Rattle.reduction.proofs.Reductions.{kept}
 use borrow.Author.Needs.{needs}
 use Rattle.reduction.proofs.placed.Statement.{statement}
 use Rattle.reduction.proofs.placed.Tie as tie
-use Rattle.reduction.proofs.placed.Reads as reads
-use Rattle.reduction.proofs.placed.Lts as lts
-use Rattle.reduction.proofs.one.Reads as one-reads
 
--- src/lib.rt:102:5
 one-requires : tie.Need-one-requires
 one-requires c κs = search needs
 
--- src/lib.rt:102:21
 one-requires-2 : tie.Need-one-requires-2
 one-requires-2 c κs = search needs
 
--- src/lib.rt:102:5
 add-result : tie.Need-add-result
 add-result c = search needs
 
--- src/lib.rt:102:38
 one-requires-3 : tie.Need-one-requires-3
 one-requires-3 c κs = search needs
 
--- src/lib.rt:102:54
 one-requires-4 : tie.Need-one-requires-4
 one-requires-4 c κs = search needs
 
--- src/lib.rt:102:38
 add-result-2 : tie.Need-add-result-2
 add-result-2 c = search needs
 
--- src/lib.rt:102:5
 add-result-3 : tie.Need-add-result-3
 add-result-3 c = search needs
 
--- src/lib.rt:99:1
 returns : tie.Need-returns
 returns c =
     let p = c .before .before .before .before .before .before .before .before .args .p in (

@@ -7,41 +7,28 @@ use Rattle.reduction.proofs.Compounds.{compound-parts, byte-range, lett
 use borrow.Author.Needs.{needs}
 use Rattle.reduction.proofs.reduction_of.Statement.{statement}
 use Rattle.reduction.proofs.reduction_of.Tie as tie
-use Rattle.reduction.proofs.reduction_of.Reads as reads
-use Rattle.reduction.proofs.reduction_of.Lts as lts
-use Rattle.reduction.proofs.second_part.Reads as second-part-reads
-use Rattle.reduction.proofs.wide.Reads as wide-reads
-use Rattle.sequent.proofs.rule_of.Reads as rule-of-reads
 
--- src/lib.rt:88:9
 wide-requires : tie.Need-wide-requires
 wide-requires c κs = search needs
 
--- src/lib.rt:89:33
 shared-slice-read-rule-of : tie.Need-shared-slice-read-rule-of
 shared-slice-read-rule-of c = let a = c .before .before .before .args in let h = c .before .before .before .pre in omega (arith, c .before .wide .ensures, well-inside (a .q .now) (a .p) (h .1 .well))
 
--- src/lib.rt:89:9
 rule-of-requires : tie.Need-rule-of-requires
 rule-of-requires c κs = let a = c .before .before .before .args in let h = c .before .before .before .pre in rw (c .before .wide .ensures) (byte-range (a .q .now) (a .p) (h .1 .well) (h .2))
 
--- src/lib.rt:90:9
 second-part-requires : tie.Need-second-part-requires
 second-part-requires c κs = let a = c .before .before .before .before .args in let h = c .before .before .before .before .pre in rw (c .before .before .wide .ensures) (h .1 .well, h .2)
 
--- src/lib.rt:93:13
 add-t9 : tie.Need-add-t9
 add-t9 c = search needs
 
--- src/lib.rt:93:12
 cast-t8 : tie.Need-cast-t8
 cast-t8 c = let a = c .before .before .before .before .before .args in let h = c .before .before .before .before .before .pre in omega (arith, c .before .before .before .wide .ensures, well-inside (a .q .now) (a .p) (h .1 .well), h .0)
 
--- src/lib.rt:94:12
 cast-t10 : tie.Need-cast-t10
 cast-t10 c = let a = c .before .before .before .before .before .args in let h = c .before .before .before .before .before .pre in omega (arith, well-inside (a .q .now) (c .second-part .result) (c .second-part .ensures .well), h .0)
 
--- src/lib.rt:84:1
 returns : tie.Need-returns
 returns c = let a = c .before .before .before .before .before .args in let h = c .before .before .before .before .before .pre in
     let x = compound-parts (a .q .now) (a .p) (h .1 .well) (h .2) in

@@ -4,19 +4,13 @@ use Rattle.calculus.specs.declared.Side.the-variants.{Left}
 use Rattle.reduction.proofs.Roots.{empty-good, loaded-few, loaded-root}
 use Rattle.reduction.proofs.root.Statement.{statement}
 use Rattle.reduction.proofs.root.Tie as tie
-use Rattle.reduction.proofs.root.Reads as reads
-use Rattle.reduction.proofs.root.Lts as lts
-use Rattle.reduction.proofs.load.Reads as load-reads
 
--- src/lib.rt:141:9
 load-requires : tie.Need-load-requires
 load-requires c κs = let h = c .before .pre in (h, empty-good (c .before .args .q .now) h _ refl refl refl refl, refl, omega arith)
 
--- src/lib.rt:142:5
 load-requires-2 : tie.Need-load-requires-2
 load-requires-2 c κs = let h = c .before .before .pre in let l = c .load .ensures in (h, l .good, l .aside, loaded-few (c .before .before .args .q .now) h Left _ _ (c .load .result) l)
 
--- src/lib.rt:130:1
 returns : tie.Need-returns
 returns c = let h = c .before .before .before .pre in let l = c .load2 .ensures in (l .good, loaded-root (c .before .before .before .args .q .now) h _ (c .before .load .result) (c .load2 .result) (c .before .load .ensures) l)
 

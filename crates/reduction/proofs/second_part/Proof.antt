@@ -3,31 +3,22 @@ use Rattle.question.proofs.Walks.{well-inside}
 use Rattle.reduction.proofs.Compounds.{compound-parts, second-not, second-two}
 use Rattle.reduction.proofs.second_part.Statement.{statement}
 use Rattle.reduction.proofs.second_part.Tie as tie
-use Rattle.reduction.proofs.second_part.Reads as reads
-use Rattle.reduction.proofs.second_part.Lts as lts
-use Rattle.question.proofs.end_of.Reads as end-of-reads
 
--- src/lib.rt:77:8
 shared-slice-read-if1 : tie.Need-shared-slice-read-if1
 shared-slice-read-if1 c = omega (arith, well-inside (c .before .before .args .q .now) (c .before .before .args .p) (c .before .before .pre .0))
 
--- src/lib.rt:78:16
 add-result : tie.Need-add-result
 add-result c = omega (arith, well-inside (c .before .before .before .args .q .now) (c .before .before .before .args .p) (c .before .before .before .pre .0))
 
--- src/lib.rt:78:9
 returns : tie.Need-returns
 returns c = let a = c .before .before .before .args in second-not (a .q .now) (a .p) (c .before .before .before .pre .0) (c .before .before .before .pre .1) (c .if1 .taken)
 
--- src/lib.rt:80:25
 add-end-of : tie.Need-add-end-of
 add-end-of c = omega (arith, well-inside (c .before .before .before .args .q .now) (c .before .before .before .args .p) (c .before .before .before .pre .0))
 
--- src/lib.rt:80:5
 end-of-requires : tie.Need-end-of-requires
 end-of-requires c κs = let a = c .before .before .before .args in compound-parts (a .q .now) (a .p) (c .before .before .before .pre .0) (c .before .before .before .pre .1) .first-well
 
--- src/lib.rt:73:1
 returns-2 : tie.Need-returns-2
 returns-2 c = let a = c .before .before .before .before .args in rw (c .end-of .ensures) (second-two (a .q .now) (a .p) (c .before .before .before .before .pre .0) (c .before .before .before .before .pre .1) (c .before .if1 .left))
 

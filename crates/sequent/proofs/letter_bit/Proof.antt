@@ -5,39 +5,28 @@ use Rattle.sequent.proofs.Premises.{letter-is, letter-bit, no-bit}
 use borrow.Author.Needs.{needs}
 use Rattle.sequent.proofs.letter_bit.Statement.{statement}
 use Rattle.sequent.proofs.letter_bit.Tie as tie
-use Rattle.sequent.proofs.letter_bit.Reads as reads
-use Rattle.sequent.proofs.letter_bit.Lts as lts
-use Rattle.sequent.proofs.wide.Reads as wide-reads
 
--- src/lib.rt:211:9
 wide-requires : tie.Need-wide-requires
 wide-requires c κs = search needs
 
--- src/lib.rt:212:8
 shared-slice-read-if1 : tie.Need-shared-slice-read-if1
 shared-slice-read-if1 c = omega (arith, c .before .wide .ensures, well-inside (c .before .before .before .args .q .now) (c .before .before .before .args .p) (c .before .before .before .pre .well))
 
--- src/lib.rt:213:26
 add-result : tie.Need-add-result
 add-result c = search needs
 
--- src/lib.rt:213:24
 shared-slice-read-result : tie.Need-shared-slice-read-result
 shared-slice-read-result c = omega (arith, c .before .before .before .wide .ensures, well-inside (c .before .before .before .before .before .args .q .now) (c .before .before .before .before .before .args .p) (c .before .before .before .before .before .pre .well))
 
--- src/lib.rt:213:24
 cast-result : tie.Need-cast-result
 cast-result c = omega (arith, c .shared-slice-known3 .given (c .before .before .before .wide .result + 1))
 
--- src/lib.rt:213:16
 shl-result : tie.Need-shl-result
 shl-result c = let a = c .before .before .before .before .before .args in rw (c .before .before .before .wide .ensures) (letter-is (a .q .now) (a .p) (c .before .before .before .before .before .pre) (rw (c .before .before .before .wide .ensures) at (c .before .if1 .taken)) .1)
 
--- src/lib.rt:213:9
 returns : tie.Need-returns
 returns c = let a = c .before .before .before .before .before .args in rw (c .before .before .before .wide .ensures) (letter-bit (a .q .now) (a .p) (c .before .before .before .before .before .pre) (rw (c .before .before .before .wide .ensures) at (c .before .if1 .taken)))
 
--- src/lib.rt:207:1
 returns-2 : tie.Need-returns-2
 returns-2 c = let a = c .before .before .before .before .args in no-bit (a .q .now) (a .p) (c .before .before .before .before .pre) (rw (c .before .before .wide .ensures) at (c .if1 .left))
 

@@ -2,44 +2,31 @@ use Rattle.sequent.proofs.Premises.{sorted-two, sorted-first, sorted-se
 use borrow.Author.Needs.{needs}
 use Rattle.sequent.proofs.parts_on.Statement.{statement}
 use Rattle.sequent.proofs.parts_on.Tie as tie
-use Rattle.sequent.proofs.parts_on.Reads as reads
-use Rattle.sequent.proofs.parts_on.Lts as lts
-use Rattle.sequent.proofs.letter_bit.Reads as letter-bit-reads
-use Rattle.sequent.proofs.side_code.Reads as side-code-reads
 
--- src/lib.rt:229:9
 side-code-requires : tie.Need-side-code-requires
 side-code-requires c κs = search needs
 
--- src/lib.rt:236:23
 letter-bit-requires : tie.Need-letter-bit-requires
 letter-bit-requires c κs = search needs
 
--- src/lib.rt:236:42
 letter-bit-requires-2 : tie.Need-letter-bit-requires-2
 letter-bit-requires-2 c κs = search needs
 
--- src/lib.rt:232:13
 returns : tie.Need-returns
 returns c = let a = c .before .before .before .before .before .before .before .before .args in sorted-two (a .q .now) (a .side) (a .p) (a .f) (a .g) (c .before .before .before .before .before .before .side-code .result) (c .before .before .before .before .before .before .side-code .ensures .0) (c .before .before .before .before .if1 .taken) (c .before .before .if2 .taken) (c .before .letter-bit .result) (c .letter-bit2 .result) (c .before .letter-bit .ensures) (c .letter-bit2 .ensures)
 
--- src/lib.rt:243:19
 letter-bit-requires-3 : tie.Need-letter-bit-requires-3
 letter-bit-requires-3 c κs = search needs
 
--- src/lib.rt:239:9
 returns-2 : tie.Need-returns-2
 returns-2 c = let a = c .before .before .before .before .before .before .before .args in sorted-first (a .q .now) (a .side) (a .p) (a .f) (a .g) (c .before .before .before .before .before .side-code .result) (c .before .before .before .before .before .side-code .ensures .0) (c .before .before .before .if1 .taken) (c .before .if2 .left) (c .letter-bit3 .result) (c .letter-bit3 .ensures)
 
--- src/lib.rt:251:19
 letter-bit-requires-4 : tie.Need-letter-bit-requires-4
 letter-bit-requires-4 c κs = search needs
 
--- src/lib.rt:247:9
 returns-3 : tie.Need-returns-3
 returns-3 c = let a = c .before .before .before .before .before .before .before .args in sorted-second (a .q .now) (a .side) (a .p) (a .f) (a .g) (c .before .before .before .before .before .side-code .result) (c .before .before .before .before .before .side-code .ensures .0) (c .before .before .before .if1 .left) (c .before .if3 .taken) (c .letter-bit4 .result) (c .letter-bit4 .ensures)
 
--- src/lib.rt:225:1
 returns-4 : tie.Need-returns-4
 returns-4 c = let a = c .before .before .before .before .before .before .args in sorted-none (a .q .now) (a .side) (a .p) (a .f) (a .g) (c .before .before .before .before .side-code .result) (c .before .before .before .before .side-code .ensures .0) (c .before .before .if1 .left) (c .if3 .left)
 

@@ -1,30 +1,22 @@
 use borrow.Author.Needs.{needs}
 use Rattle.writer.proofs.command_of.Statement.{statement}
 use Rattle.writer.proofs.command_of.Tie as tie
-use Rattle.writer.proofs.command_of.Reads as reads
-use Rattle.writer.proofs.command_of.Lts as lts
 
--- src/lib.rt:51:23
 enum-told : tie.Need-enum-told
 enum-told c = search needs
 
--- src/lib.rt:51:23
 add-result : tie.Need-add-result
 add-result c = search needs
 
--- src/lib.rt:52:24
 enum-told-2 : tie.Need-enum-told-2
 enum-told-2 c = search needs
 
--- src/lib.rt:52:24
 add-result-2 : tie.Need-add-result-2
 add-result-2 c = search needs
 
--- src/lib.rt:46:1
 returns : tie.Need-returns
 returns c = λ k e. rw (c .enum-told .given .1, e)
 
--- src/lib.rt:46:1
 returns-2 : tie.Need-returns-2
 returns-2 c = λ k e. rw (c .enum-told2 .given .1, e)
 

@@ -5,30 +5,22 @@ use Rattle.writer.proofs.Writes.{laid-two}
 use borrow.Author.Needs.{needs}
 use Rattle.writer.proofs.put.Statement.{statement}
 use Rattle.writer.proofs.put.Tie as tie
-use Rattle.writer.proofs.put.Reads as reads
-use Rattle.writer.proofs.put.Lts as lts
 
--- src/lib.rt:40:5
 slice-write-buffer : tie.Need-slice-write-buffer
 slice-write-buffer c = search needs
 
--- src/lib.rt:41:12
 add-buffer : tie.Need-add-buffer
 add-buffer c = search needs
 
--- src/lib.rt:41:5
 slice-write-buffer-2 : tie.Need-slice-write-buffer-2
 slice-write-buffer-2 c = simp length-set (omega arith)
 
--- src/lib.rt:42:5
 add-result : tie.Need-add-result
 add-result c = search needs
 
--- src/lib.rt:36:1
 same-length : tie.Need-same-length
 same-length c = search needs
 
--- src/lib.rt:36:1
 returns : tie.Need-returns
 returns c = (refl, laid-two (c .args .buffer .now) (c .args .at) (c .args .command) (c .args .operand) (c .pre))
 

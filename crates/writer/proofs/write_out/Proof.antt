@@ -1,4 +1,4 @@
-use mathlib.Core.Path.{ap, sym, _∙_, refl}
+use mathlib.Core.Path.{ap, _∙_, refl}
 use native.Mathlib.Omega.{arith}
 use lib.ListN.{length}
 use Rattle.calculus.specs.Bytes.{question}

@@ -1,22 +1,16 @@
 use mathlib.Core.List.{[], _∷_}
 use types.Run.{miss}
-use mathlib.Core.Path.{_≡_, sym, ap, _∙_}
 use Rattle.question.proofs.Readers.{ended-cut}
 use borrow.Author.Needs.{needs}
 use Rattle.question.proofs.Cursor.end.Statement.{statement}
 use Rattle.question.proofs.Cursor.end.Tie as tie
-use Rattle.question.proofs.Cursor.end.Reads as reads
-use Rattle.question.proofs.Cursor.end.Lts as lts
 
--- src/lib.rt:160:30
 enum-told : tie.Need-enum-told
 enum-told c = search needs
 
--- src/lib.rt:155:5
 returns : tie.Need-returns
 returns c = search needs
 
--- src/lib.rt:155:5
 returns-2 : tie.Need-returns-2
 returns-2 c = ended-cut (c .before .args .self .expected) (c .before .args .self .at) (λ e. miss (0 ∷ 1 ∷ 2 ∷ 3 ∷ []) 4 tt (rw e at (c .match .keys2)))
 

@@ -5,37 +5,25 @@ use Rattle.sequent.proofs.Premises.{replace-fits, append-fits, premise-
 use borrow.Author.Needs.{needs}
 use Rattle.sequent.proofs.Running.premise.Statement.{statement}
 use Rattle.sequent.proofs.Running.premise.Tie as tie
-use Rattle.sequent.proofs.Running.premise.Reads as reads
-use Rattle.sequent.proofs.Running.premise.Lts as lts
-use Rattle.calculus.proofs.Side.other.Reads as other-reads
-use Rattle.sequent.proofs.Running.append.Reads as append-reads
-use Rattle.sequent.proofs.Running.replace.Reads as replace-reads
-use Rattle.sequent.proofs.parts_on.Reads as parts-on-reads
 
 size-at : (c : tie.Start) → length (c .args .self .items) ≡ ROOM
 size-at c = search needs
 
--- src/lib.rt:268:13
 parts-on-requires : tie.Need-parts-on-requires
 parts-on-requires c κs = search needs
 
--- src/lib.rt:269:13
 other-requires : tie.Need-other-requires
 other-requires c κs = search needs
 
--- src/lib.rt:270:13
 parts-on-requires-2 : tie.Need-parts-on-requires-2
 parts-on-requires-2 c κs = search needs
 
--- src/lib.rt:271:9
 replace-requires : tie.Need-replace-requires
 replace-requires c κs = let a = c .before .before .before .before .args in let h = c .before .before .before .before .pre in let size = size-at (c .before .before .before .before) in replace-fits (a .q .now) (a .self) (h .0) size (a .p) (a .f) (a .g) (h .1) (h .2) (a .side) (a .at) (h .3) (h .4) (c .before .before .parts-on .result) (c .parts-on2 .result) (c .before .before .parts-on .ensures) (rw (c .before .other .ensures) at (c .parts-on2 .ensures))
 
--- src/lib.rt:271:9
 append-requires : tie.Need-append-requires
 append-requires c κs = let a = c .before .before .before .before .before .args in let h = c .before .before .before .before .before .pre in let size = size-at (c .before .before .before .before .before) in append-fits (a .q .now) (a .self) (h .0) size (a .p) (a .f) (a .g) (h .1) (h .2) (a .side) (a .at) (h .3) (h .4) (c .before .before .before .parts-on .result) (c .before .parts-on2 .result) (c .before .before .before .parts-on .ensures) (rw (c .before .before .other .ensures) at (c .before .parts-on2 .ensures)) (c .replace .result) (c .replace .ensures)
 
--- src/lib.rt:264:5
 returns : tie.Need-returns
 returns c = let a = c .before .before .before .before .before .before .args in let h = c .before .before .before .before .before .before .pre in let size = size-at (c .before .before .before .before .before .before) in premise-made (a .q .now) (a .self) (h .0) size (a .p) (a .f) (a .g) (h .1) (h .2) (a .side) (a .at) (h .3) (h .4) (c .before .before .before .before .parts-on .result) (c .before .before .parts-on2 .result) (c .before .before .before .before .parts-on .ensures) (rw (c .before .before .before .other .ensures) at (c .before .before .parts-on2 .ensures)) (c .before .replace .result) (c .before .replace .ensures) (c .append .result) (rw (c .before .before .before .other .ensures) at (c .append .ensures))
 

@@ -5,23 +5,16 @@ use Rattle.sequent.proofs.Premises.{pushed}
 use borrow.Author.Needs.{needs}
 use Rattle.sequent.proofs.Running.push.Statement.{statement}
 use Rattle.sequent.proofs.Running.push.Tie as tie
-use Rattle.sequent.proofs.Running.push.Reads as reads
-use Rattle.sequent.proofs.Running.push.Lts as lts
-use Rattle.sequent.proofs.Running.append.Reads as append-reads
-use Rattle.sequent.proofs.letter_bit.Reads as letter-bit-reads
 
 size-at : (c : tie.Start) → length (c .args .self .items) ≡ ROOM
 size-at c = search needs
 
--- src/lib.rt:322:13
 letter-bit-requires : tie.Need-letter-bit-requires
 letter-bit-requires c κs = search needs
 
--- src/lib.rt:323:9
 append-requires : tie.Need-append-requires
 append-requires c κs = search needs
 
--- src/lib.rt:318:5
 returns : tie.Need-returns
 returns c = let a = c .before .before .before .args in let h = c .before .before .before .pre in pushed (a .q .now) (a .self) (h .0) (size-at (c .before .before .before)) (a .p) (h .1) (h .2) (a .side) (c .before .letter-bit .result) (c .before .letter-bit .ensures) (c .append .result) (c .append .ensures)
 

@@ -1,5 +1,5 @@
-use mathlib.Core.Path.{_≡_, refl, sym, ap, _∙_}
-use Prim.Native.Nat.{ℕ, _+_, _-_, _≤_, _<_}
+use mathlib.Core.Path.{_≡_}
+use Prim.Native.Nat.{_-_}
 use native.Mathlib.Omega.{arith}
 use lib.ListN.{length}
 use borrow.Author.Needs.{needs}
@@ -8,29 +8,19 @@ use Rattle.sequent.proofs.Changes.{sides, put-one}
 use borrow.Author.Needs.{needs}
 use Rattle.sequent.proofs.Running.put_one.Statement.{statement}
 use Rattle.sequent.proofs.Running.put_one.Tie as tie
-use Rattle.sequent.proofs.Running.put_one.Reads as reads
-use Rattle.sequent.proofs.Running.put_one.Lts as lts
-use Rattle.sequent.proofs.Running.count.Reads as count-reads
-use Rattle.sequent.proofs.Running.settle.Reads as settle-reads
-use Rattle.sequent.proofs.slot.Reads as slot-reads
 
--- src/lib.rt:159:13
 count-requires : tie.Need-count-requires
 count-requires c κs = search needs
 
--- src/lib.rt:160:20
 slot-requires : tie.Need-slot-requires
 slot-requires c κs = let a = c .before .args in let k : length (a .t1 .items) ≡ ROOM = search needs in let p = c .before .pre in omega (arith, sides (a .side) (a .t1))
 
--- src/lib.rt:160:9
 element-write-self : tie.Need-element-write-self
 element-write-self c = search needs
 
--- src/lib.rt:161:9
 settle-requires : tie.Need-settle-requires
 settle-requires c κs = search needs
 
--- src/lib.rt:155:5
 returns : tie.Need-returns
 returns c = let a = c .before .before .before .args in let k : length (a .t1 .items) ≡ ROOM = search needs in let p = c .before .before .before .pre in rw (c .settle .ensures, c .before .slot .ensures .0, c .before .before .count .ensures, p .2) (put-one (a .side) (a .t1) k (a .at) (p .0) (p .1) (a .parts .first) (a .parts .mask))
 
