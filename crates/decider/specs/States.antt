@@ -11,7 +11,7 @@ use lib.ListN.{length, take, drop, getD, getElem?}
 use Rattle.calculus.specs.declared.Side.{Side}
 use Rattle.calculus.specs.declared.Side.the-variants.{Left, Right}
 use Rattle.calculus.specs.Fold.{choose, Each}
-use Rattle.calculus.specs.Limits.{ROOM, CONNECTIVES}
+use Rattle.calculus.specs.Limits.{ROOM, LETTERS, CONNECTIVES}
 use Rattle.calculus.specs.Syntax.{Connective, NOT, two, Formula, Compound, whole, Sequent, on-side, connectives, c, size}
 use Rattle.calculus.specs.Bytes.{CONNECTIVE, code}
 use Rattle.calculus.specs.Table.{table}
@@ -94,7 +94,7 @@ Takes Right p f g n s = s .to + 2 ≤ n
 abbrev pub fetched : List ℕ → Sets → Sets
 fetched Q s = choose (eqb (s .first) 0) (choose (ltb (s .from) (s .to)) (record {
   left = s .left;
-  first = 2 ^ getD Q (s .from) 0;
+  first = 2 ^ (getD Q (s .from) 0 - LETTERS);
   leftmask = s .leftmask;
   rightmask = s .rightmask;
   from = s .from + 1;
@@ -148,6 +148,7 @@ pub record Shows (T : List ℕ) (e : ℕ) (Q : List ℕ) (s : Sets) (S : Sequent
   pub queue : Lined T e back (drop (s .from) (take (s .to) Q))
   pub leftmask : s .leftmask ≡ state (letters (S .on-left))
   pub rightmask : s .rightmask ≡ state (letters (S .on-right))
+  pub lit : s .leftmask < 2 ^ LETTERS
   pub size : s .size ≡ size S
   pub order : s .from ≤ s .to
 
@@ -197,6 +198,7 @@ pub record Lacks (t : Side) (T : List ℕ) (e : ℕ) (Q : List ℕ) (n i : ℕ) 
   pub inside : n + connectives (whole x) ≤ e
   pub leftmask : s .leftmask ≡ state (letters (S .on-left))
   pub rightmask : s .rightmask ≡ state (letters (S .on-right))
+  pub lit : s .leftmask < 2 ^ LETTERS
   pub order : s .from ≤ s .to
 
 -- the parts of a compound that is counted from n

@@ -27,15 +27,15 @@ ghost use Rattle.decider.specs.States.{partBits, partLamps, partsWaiting
 // other right formulas wait in a queue, from place `from` to place `to`. In `left` and `first` the lowest is due.
 pub struct Sets {
     pub left: u64,
-    pub first: u64,
-    pub leftmask: u32,
-    pub rightmask: u32,
     pub from: usize,
-    pub to: usize,
+    pub first: u64,
     // All formulas, letters too.
     pub size: usize,
+    pub leftmask: u64,
     // At most so many connectives.
     pub connectives: usize,
+    pub rightmask: u64,
+    pub to: usize,
 }
 
 // The first compound: its side, its connective's number and the state without it.
@@ -81,25 +81,25 @@ fn bit(wanted: bool, name: u8) -> u64
     0
 }
 
-fn lamp(wanted: bool, name: u8) -> u32
+fn lamp(wanted: bool, name: u8) -> u64
     ensures { λ r. ⌜ r ≡ lampOf wanted name ⌝ }
 {
     if wanted {
         if name < LETTERS {
-            return 1u32 << name;
+            return 1u64 << name;
         }
     }
     0
 }
 
-// A compound goes to the queue's end.
+// A compound goes to the queue's end. What is written behind the end does not count.
 fn push(queue: &mut [u8], to: usize, wanted: bool, name: u8) -> usize
     requires { ⌜ to < length (now queue) ⌝ }
     ensures { λ r. ⌜ (r ≡ to + length (waiting wanted name)) × (take r (now (queue .exit)) ≡ take to (now (queue .entry)) ++ waiting wanted name) ⌝ }
 {
+    queue[to] = name;
     if wanted {
         if LETTERS <= name {
-            queue[to] = name - LETTERS;
             return to + 1;
         }
     }
@@ -125,7 +125,7 @@ fn bits_on(side: Side, p: Placing, f: u8, g: u8) -> u64
 }
 
 // The letters among them.
-fn lamps_on(side: Side, p: Placing, f: u8, g: u8) -> u32
+fn lamps_on(side: Side, p: Placing, f: u8, g: u8) -> u64
     ensures { λ r. ⌜ r ≡ partLamps side p f g ⌝ }
 {
     let s = side_code(side);
@@ -196,13 +196,13 @@ impl Sets {
 
     // The first that waits comes to the right's set, if that is empty.
     fn fetch(mut self, queue: &[u8]) -> Sets
-        requires { ⌜ (self .to ≤ length (now queue)) × (self .from < self .to → getD (now queue) (self .from) 0 < 64) ⌝ }
+        requires { ⌜ (self .to ≤ length (now queue)) × (self .from < self .to → (LETTERS ≤ getD (now queue) (self .from) 0) × (getD (now queue) (self .from) 0 < LETTERS + 64)) ⌝ }
         ensures { λ r. ⌜ r ≡ fetched (now (queue .entry)) self ⌝ }
     {
         let from = self.from;
         if self.first == 0 {
             if from < self.to {
-                self.first = 1u64 << queue[from];
+                self.first = 1u64 << (queue[from] - LETTERS);
                 self.from = from + 1;
                 return self;
             }
@@ -212,7 +212,7 @@ impl Sets {
 
     // The first formula with a connective, the left side before the right.
     fn first_compound(mut self, queue: &[u8]) -> Due
-        requires { ⌜ (self .to ≤ length (now queue)) × (self .from < self .to → getD (now queue) (self .from) 0 < 64) ⌝ }
+        requires { ⌜ (self .to ≤ length (now queue)) × (self .from < self .to → (LETTERS ≤ getD (now queue) (self .from) 0) × (getD (now queue) (self .from) 0 < LETTERS + 64)) ⌝ }
         ensures { λ r. ⌜ r ≡ dueIn (now (queue .entry)) self ⌝ }
     {
         if self.left != 0 {
@@ -293,7 +293,7 @@ impl Sets {
         let due = self.first_compound(queue);
         match due {
             Due::At(side, n, rest) => rest.reduction(nodes, side, n, left),
-            Due::Nothing => Answer::Open(self.leftmask),
+            Due::Nothing => Answer::Open(self.leftmask as u32),
         }
     }
 }
