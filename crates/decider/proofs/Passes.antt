@@ -36,7 +36,7 @@ use Rattle.sequent.proofs.Premises.{bit-whole}
 use Rattle.decider.specs.declared.Sets.{Sets}
 use Rattle.decider.specs.declared.Reduction.{Reduction}
 use Rattle.decider.specs.Names.{lampOf, waiting, Rising, Lined}
-use Rattle.decider.specs.States.{partBits, partLamps, partsWaiting, setOf, replaced, appended, Takes, Shows, Runs, Led, Lacks, firstName, secondName, Reduces}
+use Rattle.decider.specs.States.{kindOf, partBits, partLamps, partsWaiting, setOf, replaced, appended, Takes, Shows, Runs, Led, Lacks, firstName, secondName, Reduces}
 use Rattle.decider.proofs.Numbers.{lamp-small, waiting-short}
 use Rattle.decider.proofs.Lines.{rising-wider, rising-append, rising-empty, rising-bound, rising-splice, lined-append}
 use Rattle.decider.proofs.Naming.{Fair, node-told, parts-rising, parts-lined, parts-lamps}
@@ -322,3 +322,21 @@ module _ (T Q : List ℕ) (i : ℕ) (x : Compound) (S : Sequent) (d : Reduction)
         let p = premiseBy (d .side) i x S (d .rule .second) in
         let y : pass outcome (o .unspent) (p ∷ []) ≡ v = pass-last (outcome (o .unspent) p) ∙ sym w in
         (λ j. record { kind = x₁ j; unspent = x₂ j; closings = x₃ j }) ∙ sym (rw (two a, ← e, k, y))
+
+-- ---- endings
+
+pub refuted-ending : (σ : ℕ) → kindOf (3 + σ) ≡ Refuted σ
+refuted-ending σ =
+    let e : 3 + σ - 3 ≡ σ = omega arith in
+    rw (ne-eqb (3 + σ) 0 (λ z. omega arith), ne-eqb (3 + σ) 1 (λ z. omega arith), ne-eqb (3 + σ) 2 (λ z. omega arith), e)
+
+pub theorem-ending : (n : ℕ) → n ≡ 0 → kindOf n ≡ Theorem
+theorem-ending n e = rw (eq-eqb n 0 e)
+
+pub other-ending : (n : ℕ) → (n ≡ 0 → ⊥) → kindOf n ≡ Theorem → ⊥
+other-ending n h = rw (ne-eqb n 0 h) (go (eqb n 1) (eqb n 2))
+  where
+    go : (a b : Bool) → choose a Spent (choose b Full (Refuted (n - 3))) ≡ Theorem → ⊥
+    go true b e = let z : _≡_ {A = ℕ} 0 1 = cc in omega arith
+    go false true e = let z : _≡_ {A = ℕ} 0 1 = cc in omega arith
+    go false false e = let z : _≡_ {A = ℕ} 0 1 = cc in omega arith
