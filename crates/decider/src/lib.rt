@@ -344,7 +344,8 @@ fn run_premises(nodes: &[u32], queue: &mut [u8], d: Reduction, left: u64) -> Tal
 {
     let side = d.side;
     let rule = d.rule;
-    let p = d.rest.premise(queue, side, rule.first, d.f, d.g);
+    let rest = d.rest;
+    let p = rest.premise(queue, side, rule.first, d.f, d.g);
     let o = run(nodes, queue, p, left);
     if rule.premises != 2 {
         return o;
@@ -352,7 +353,7 @@ fn run_premises(nodes: &[u32], queue: &mut [u8], d: Reduction, left: u64) -> Tal
     if o.ending != 0 {
         return o;
     }
-    let p = d.rest.premise(queue, side, rule.second, d.f, d.g);
+    let p = rest.premise(queue, side, rule.second, d.f, d.g);
     let v = run(nodes, queue, p, o.unspent);
     joined(o, v)
 }

@@ -57,47 +57,47 @@ Ran t = run-premises-lts.After-run (premise-reads.Asked, premise-reads.Learnt, r
 abbrev Again : ℕ → Type 0
 Again t = run-premises-lts.After-run2 (premise-reads.Asked, premise-reads.Learnt, run-below t, run.Post, joined-reads.Asked, joined-reads.Learnt) (run-premises-at t) run-premises.Post
 
-module _ (t : ℕ) (c : Ran t) (i : ℕ) (x : Compound) (S : Sequent) (h : Reduces (c .before .before .before .before .before .before .before .before .before .args .nodes .now) (c .before .before .before .before .before .before .before .before .before .args .queue .now) i x S (c .before .before .before .before .before .before .before .before .before .args .d)) where
-  runs-now : Runs (c .before .before .before .before .before .before .before .before .before .args .nodes .now) (c .before .before .before .before .premise .last .1 .0) (c .before .before .before .before .premise .result) (premiseBy (c .before .before .before .before .before .before .before .before .before .args .d .side) i x S (c .before .before .before .before .before .before .before .before .before .args .d .rule .first))
+module _ (t : ℕ) (c : Ran t) (i : ℕ) (x : Compound) (S : Sequent) (h : Reduces (c .before .before .before .before .before .before .before .before .before .before .args .nodes .now) (c .before .before .before .before .before .before .before .before .before .before .args .queue .now) i x S (c .before .before .before .before .before .before .before .before .before .before .args .d)) where
+  runs-now : Runs (c .before .before .before .before .before .before .before .before .before .before .args .nodes .now) (c .before .before .before .before .premise .last .1 .0) (c .before .before .before .before .premise .result) (premiseBy (c .before .before .before .before .before .before .before .before .before .before .args .d .side) i x S (c .before .before .before .before .before .before .before .before .before .before .args .d .rule .first))
   runs-now =
-      let a = c .before .before .before .before .before .before .before .before .before .args in
+      let a = c .before .before .before .before .before .before .before .before .before .before .args in
       let p = c .before .before .before .before .premise in
       first-runs (a .nodes .now) (a .queue .now) i x S (a .d) h (p .last .1 .0) (p .result) (p .ensures .0) (p .ensures .1) (p .kept .1 .0)
 
-  first-now : outcomeOf (c .run .result) ≡ outcome (c .before .before .before .before .before .before .before .before .before .args .left) (premiseBy (c .before .before .before .before .before .before .before .before .before .args .d .side) i x S (c .before .before .before .before .before .before .before .before .before .args .d .rule .first))
-  first-now = c .run .ensures .0 (premiseBy (c .before .before .before .before .before .before .before .before .before .args .d .side) i x S (c .before .before .before .before .before .before .before .before .before .args .d .rule .first)) runs-now
+  first-now : outcomeOf (c .run .result) ≡ outcome (c .before .before .before .before .before .before .before .before .before .before .args .left) (premiseBy (c .before .before .before .before .before .before .before .before .before .before .args .d .side) i x S (c .before .before .before .before .before .before .before .before .before .before .args .d .rule .first))
+  first-now = c .run .ensures .0 (premiseBy (c .before .before .before .before .before .before .before .before .before .before .args .d .side) i x S (c .before .before .before .before .before .before .before .before .before .before .args .d .rule .first)) runs-now
 
-  kept-now : take (c .before .before .before .before .before .before .before .before .before .args .d .rest .to) (c .run .last .1 .0) ≡ take (c .before .before .before .before .before .before .before .before .before .args .d .rest .to) (c .before .before .before .before .before .before .before .before .before .args .queue .now)
+  kept-now : take (c .before .before .before .before .before .before .before .before .before .before .args .d .rest .to) (c .run .last .1 .0) ≡ take (c .before .before .before .before .before .before .before .before .before .before .args .d .rest .to) (c .before .before .before .before .before .before .before .before .before .before .args .queue .now)
   kept-now =
-      let a = c .before .before .before .before .before .before .before .before .before .args in
+      let a = c .before .before .before .before .before .before .before .before .before .before .args in
       let p = c .before .before .before .before .premise in
       premise-kept (a .nodes .now) (a .queue .now) i x S (a .d) h (a .d .rule .first) (p .last .1 .0) (c .run .last .1 .0) (p .result) (p .ensures .0) (p .ensures .1) (c .run .ensures .1)
 
-  again-now : Reduces (c .before .before .before .before .before .before .before .before .before .args .nodes .now) (c .run .last .1 .0) i x S (c .before .before .before .before .before .before .before .before .before .args .d)
+  again-now : Reduces (c .before .before .before .before .before .before .before .before .before .before .args .nodes .now) (c .run .last .1 .0) i x S (c .before .before .before .before .before .before .before .before .before .before .args .d)
   again-now =
-      let a = c .before .before .before .before .before .before .before .before .before .args in
+      let a = c .before .before .before .before .before .before .before .before .before .before .args in
       reduces-kept (a .nodes .now) (a .queue .now) (c .run .last .1 .0) i x S (a .d) h kept-now (c .run .kept .1 .0 ∙ c .before .before .before .before .premise .kept .1 .0)
 
-module _ (t : ℕ) (c : Again t) (i : ℕ) (x : Compound) (S : Sequent) (h : Reduces (c .before .before .before .before .before .before .before .before .before .before .before .before .before .before .before .before .before .before .before .before .before .args .nodes .now) (c .before .before .before .before .before .before .before .before .before .before .before .before .before .before .before .before .before .before .before .before .before .args .queue .now) i x S (c .before .before .before .before .before .before .before .before .before .before .before .before .before .before .before .before .before .before .before .before .before .args .d)) where
-  second-runs-now : Runs (c .before .before .before .before .before .before .before .before .before .before .before .before .before .before .before .before .before .before .before .before .before .args .nodes .now) (c .before .before .before .before .premise2 .last .1 .0) (c .before .before .before .before .premise2 .result) (premiseBy (c .before .before .before .before .before .before .before .before .before .before .before .before .before .before .before .before .before .before .before .before .before .args .d .side) i x S (c .before .before .before .before .before .before .before .before .before .before .before .before .before .before .before .before .before .before .before .before .before .args .d .rule .second))
+module _ (t : ℕ) (c : Again t) (i : ℕ) (x : Compound) (S : Sequent) (h : Reduces (c .before .before .before .before .before .before .before .before .before .before .before .before .before .before .before .before .before .before .before .before .before .before .args .nodes .now) (c .before .before .before .before .before .before .before .before .before .before .before .before .before .before .before .before .before .before .before .before .before .before .args .queue .now) i x S (c .before .before .before .before .before .before .before .before .before .before .before .before .before .before .before .before .before .before .before .before .before .before .args .d)) where
+  second-runs-now : Runs (c .before .before .before .before .before .before .before .before .before .before .before .before .before .before .before .before .before .before .before .before .before .before .args .nodes .now) (c .before .before .before .before .premise2 .last .1 .0) (c .before .before .before .before .premise2 .result) (premiseBy (c .before .before .before .before .before .before .before .before .before .before .before .before .before .before .before .before .before .before .before .before .before .before .args .d .side) i x S (c .before .before .before .before .before .before .before .before .before .before .before .before .before .before .before .before .before .before .before .before .before .before .args .d .rule .second))
   second-runs-now =
-      let a = c .before .before .before .before .before .before .before .before .before .before .before .before .before .before .before .before .before .before .before .before .before .args in
+      let a = c .before .before .before .before .before .before .before .before .before .before .before .before .before .before .before .before .before .before .before .before .before .before .args in
       let p = c .before .before .before .before .premise2 in
       second-runs (a .nodes .now) (c .before .before .before .before .before .before .before .before .before .before .before .before .run .last .1 .0) i x S (a .d) (again-now t (c .before .before .before .before .before .before .before .before .before .before .before .before) i x S h) (c .before .before .before .before .before .before .before .before .if1 .left) (p .last .1 .0) (p .result) (p .ensures .0) (p .ensures .1) (p .kept .1 .0)
 
-  second-now : outcomeOf (c .run2 .result) ≡ outcome (c .before .before .before .before .before .before .before .before .before .before .before .before .run .result .unspent) (premiseBy (c .before .before .before .before .before .before .before .before .before .before .before .before .before .before .before .before .before .before .before .before .before .args .d .side) i x S (c .before .before .before .before .before .before .before .before .before .before .before .before .before .before .before .before .before .before .before .before .before .args .d .rule .second))
-  second-now = c .run2 .ensures .0 (premiseBy (c .before .before .before .before .before .before .before .before .before .before .before .before .before .before .before .before .before .before .before .before .before .args .d .side) i x S (c .before .before .before .before .before .before .before .before .before .before .before .before .before .before .before .before .before .before .before .before .before .args .d .rule .second)) second-runs-now
+  second-now : outcomeOf (c .run2 .result) ≡ outcome (c .before .before .before .before .before .before .before .before .before .before .before .before .run .result .unspent) (premiseBy (c .before .before .before .before .before .before .before .before .before .before .before .before .before .before .before .before .before .before .before .before .before .before .args .d .side) i x S (c .before .before .before .before .before .before .before .before .before .before .before .before .before .before .before .before .before .before .before .before .before .before .args .d .rule .second))
+  second-now = c .run2 .ensures .0 (premiseBy (c .before .before .before .before .before .before .before .before .before .before .before .before .before .before .before .before .before .before .before .before .before .before .args .d .side) i x S (c .before .before .before .before .before .before .before .before .before .before .before .before .before .before .before .before .before .before .before .before .before .before .args .d .rule .second)) second-runs-now
 
-  kept-again : take (c .before .before .before .before .before .before .before .before .before .before .before .before .before .before .before .before .before .before .before .before .before .args .d .rest .to) (c .run2 .last .1 .0) ≡ take (c .before .before .before .before .before .before .before .before .before .before .before .before .before .before .before .before .before .before .before .before .before .args .d .rest .to) (c .before .before .before .before .before .before .before .before .before .before .before .before .before .before .before .before .before .before .before .before .before .args .queue .now)
+  kept-again : take (c .before .before .before .before .before .before .before .before .before .before .before .before .before .before .before .before .before .before .before .before .before .before .args .d .rest .to) (c .run2 .last .1 .0) ≡ take (c .before .before .before .before .before .before .before .before .before .before .before .before .before .before .before .before .before .before .before .before .before .before .args .d .rest .to) (c .before .before .before .before .before .before .before .before .before .before .before .before .before .before .before .before .before .before .before .before .before .before .args .queue .now)
   kept-again =
-      let a = c .before .before .before .before .before .before .before .before .before .before .before .before .before .before .before .before .before .before .before .before .before .args in
+      let a = c .before .before .before .before .before .before .before .before .before .before .before .before .before .before .before .before .before .before .before .before .before .before .args in
       let p = c .before .before .before .before .premise2 in
       premise-kept (a .nodes .now) (c .before .before .before .before .before .before .before .before .before .before .before .before .run .last .1 .0) i x S (a .d) (again-now t (c .before .before .before .before .before .before .before .before .before .before .before .before) i x S h) (a .d .rule .second) (p .last .1 .0) (c .run2 .last .1 .0) (p .result) (p .ensures .0) (p .ensures .1) (c .run2 .ensures .1)
       ∙ kept-now t (c .before .before .before .before .before .before .before .before .before .before .before .before) i x S h
 
   sum-fits : c .before .before .before .before .before .before .before .before .before .before .before .before .run .result .closings + c .run2 .result .closings < 2 ^ 64
   sum-fits =
-      let a = c .before .before .before .before .before .before .before .before .before .before .before .before .before .before .before .before .before .before .before .before .before .args in
+      let a = c .before .before .before .before .before .before .before .before .before .before .before .before .before .before .before .before .before .before .before .before .before .before .args in
       let r = runs-now t (c .before .before .before .before .before .before .before .before .before .before .before .before) i x S h in
       let w = second-runs-now in
       let o = ap (λ (v : Outcome). v .closings) (first-now t (c .before .before .before .before .before .before .before .before .before .before .before .before) i x S h) in
@@ -167,11 +167,11 @@ pub +run+run-premises-spec : {M : Type 1} → statement M
     (run-premises-at t)
     run-premises.Post
     (λ c κs.
-    let s = c .before .before .before .before in
+    let s = c .before .before .before .before .before in
     let h = s .pre .1 in
     first-asks (s .args .nodes .now) (s .args .queue .now) (h .0) (h .1) (h .2) (s .args .d) (h .3))
     (λ c κs.
-    let s = c .before .before .before .before .before .before .before .before in
+    let s = c .before .before .before .before .before .before .before .before .before in
     let a = s .args in
     let h = s .pre .1 in
     let p = c .before .before .before .premise in (
@@ -184,7 +184,7 @@ pub +run+run-premises-spec : {M : Type 1} → statement M
     (λ c. search needs)
     (λ c.
     let r = c .before .before .before .before in
-    let s = c .before .before .before .before .before .before .before .before .before .before .before .before .before in
+    let s = c .before .before .before .before .before .before .before .before .before .before .before .before .before .before in
     let a = s .args in
     let h = s .pre .1 in (
       λ i x S h. pass-one (a .nodes .now) (a .queue .now) i x S (a .d) h (a .left) (outcomeOf (r .run .result)) (first-now t r i x S h) (c .if1 .taken),
@@ -194,7 +194,7 @@ pub +run+run-premises-spec : {M : Type 1} → statement M
     (λ c. search needs)
     (λ c.
     let r = c .before .before .before .before .before .before in
-    let s = c .before .before .before .before .before .before .before .before .before .before .before .before .before .before .before in
+    let s = c .before .before .before .before .before .before .before .before .before .before .before .before .before .before .before .before in
     let a = s .args in
     let h = s .pre .1 in (
       λ i x S h.
@@ -204,12 +204,12 @@ pub +run+run-premises-spec : {M : Type 1} → statement M
     ))
     (λ c κs.
     let r = c .before .before .before .before .before .before .before in
-    let s = c .before .before .before .before .before .before .before .before .before .before .before .before .before .before .before .before in
+    let s = c .before .before .before .before .before .before .before .before .before .before .before .before .before .before .before .before .before in
     let h = s .pre .1 in
     second-asks (s .args .nodes .now) (r .run .last .1 .0) (h .0) (h .1) (h .2) (s .args .d) (again-now t r (h .0) (h .1) (h .2) (h .3)) (c .before .before .before .if1 .left))
     (λ c κs.
     let r = c .before .before .before .before .before .before .before .before .before .before .before in
-    let s = c .before .before .before .before .before .before .before .before .before .before .before .before .before .before .before .before .before .before .before .before in
+    let s = c .before .before .before .before .before .before .before .before .before .before .before .before .before .before .before .before .before .before .before .before .before in
     let a = s .args in
     let h = s .pre .1 in
     let p = c .before .before .before .premise2 in (
@@ -219,14 +219,14 @@ pub +run+run-premises-spec : {M : Type 1} → statement M
         second-runs (a .nodes .now) (r .run .last .1 .0) (h .0) (h .1) (h .2) (a .d) (again-now t r (h .0) (h .1) (h .2) (h .3)) (c .before .before .before .before .before .before .before .if1 .left) (p .last .1 .0) (p .result) (p .ensures .0) (p .ensures .1) (p .kept .1 .0),
       ),
     ))
-    (λ c κs. let h = c .before .before .before .before .before .before .before .before .before .before .before .before .before .before .before .before .before .before .before .before .before .before .before .pre .1 in sum-fits t (c .before .before) (h .0) (h .1) (h .2) (h .3))
+    (λ c κs. let h = c .before .before .before .before .before .before .before .before .before .before .before .before .before .before .before .before .before .before .before .before .before .before .before .before .pre .1 in sum-fits t (c .before .before) (h .0) (h .1) (h .2) (h .3))
     (λ c.
     let r = c .before .before .before .before .before .before .before .before .before .before .before .before .before .before .before in
     c .before .before .before .run2 .kept .1 .0 ∙ c .before .before .before .before .before .before .before .premise2 .kept .1 .0 ∙ r .run .kept .1 .0 ∙ r .before .before .before .before .premise .kept .1 .0)
     (λ c.
     let w = c .before .before .before in
     let r = c .before .before .before .before .before .before .before .before .before .before .before .before .before .before .before in
-    let s = c .before .before .before .before .before .before .before .before .before .before .before .before .before .before .before .before .before .before .before .before .before .before .before .before in
+    let s = c .before .before .before .before .before .before .before .before .before .before .before .before .before .before .before .before .before .before .before .before .before .before .before .before .before in
     let a = s .args in
     let h = s .pre .1 in
     let j = c .joined .ensures in (
