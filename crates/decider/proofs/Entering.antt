@@ -7,7 +7,7 @@ use Prim.Native.Nat.{ℕ, zero, suc, _+_, _-_, _*_, _^_, _≤_, _<_}
 use native.Mathlib.Nat.{add-zero, le-refl}
 use native.Mathlib.Numerals.{add-one}
 use native.Mathlib.Omega.{arith}
-use lib.Bits.{bitOr, or-zero-r}
+use lib.Bits.{bitOr, or-zero-r, or-lt}
 use lib.ListN.{length, take, drop, getD, length-append, length-take, length-drop}
 use lib.Pow.{pow-mono}
 use lib.Seq.{drop-append-le, take-length}
@@ -32,7 +32,7 @@ use Rattle.decider.specs.declared.Loaded.{Loaded}
 use Rattle.decider.specs.Names.{name, Told, bitOf, lampOf, waiting, Leads, Rising, Waits, Lined}
 use Rattle.decider.specs.States.{partBits, partsWaiting, appended, Takes, Shows, Runs}
 use Rattle.decider.specs.Loads.{WAITING, Loads, Enters, entered, upTo}
-use Rattle.decider.proofs.Numbers.{waiting-short}
+use Rattle.decider.proofs.Numbers.{lamp-small, waiting-short}
 use Rattle.decider.proofs.Lines.{rising-order, rising-wider, rising-append, rising-bound, lined-append}
 use Rattle.decider.proofs.Naming.{name-small, keep-rising, keep-lined, keep-lamp}
 use Rattle.decider.proofs.Passes.{mask-append}
@@ -136,6 +136,7 @@ module _ (T Q R P : List ℕ) (l : Loaded) (S : Sequent) (h : Loads T Q l S) (x 
           queue = rw o (lined-same T R (l .next) k (l .next + connectives x) (omega arith) (v .back) (drop (l .sets .from) (take (l .sets .to) Q)) (v .queue));
           leftmask = mask-append (S .on-left) (x ∷ []) (l .sets .leftmask) (bitOr (lampOf true (name (l .next) x)) 0) (v .leftmask) (one-mask R (l .next) x t);
           rightmask = v .rightmask;
+          lit = or-lt LETTERS (l .sets .leftmask) (bitOr (lampOf true (name (l .next) x)) 0) (v .lit) (rw (or-zero-r (lampOf true (name (l .next) x))) (lamp-small true (name (l .next) x)));
           size = omega (arith, v .size, fold-append SUM (λ (y : Formula). 1) (S .on-left) (x ∷ []));
           order = v .order;
         };
@@ -166,6 +167,7 @@ module _ (T Q R P : List ℕ) (l : Loaded) (S : Sequent) (h : Loads T Q l S) (x 
           first = first-set;
           queue = rw d (lined-append R (l .next + connectives x) (v .back) (x ∷ []) (drop (l .sets .from) (take (l .sets .to) Q)) W a b);
           leftmask = v .leftmask;
+          lit = v .lit;
           rightmask = mask-append (S .on-right) (x ∷ []) (l .sets .rightmask) (bitOr (lampOf true (name (l .next) x)) 0) (v .rightmask) (one-mask R (l .next) x t);
           size = omega (arith, v .size, fold-append SUM (λ (y : Formula). 1) (S .on-right) (x ∷ []));
           order = omega (arith, v .order);
@@ -288,6 +290,7 @@ module _ (q : List ℕ) (a : reading q ≡ accepted) where
           queue = lined-same T T (l .next) (λ j i. refl) CONNECTIVES n (v .back) (drop (l .sets .from) (take (l .sets .to) Q)) (v .queue);
           leftmask = v .leftmask;
           rightmask = v .rightmask;
+          lit = v .lit;
           size = v .size;
           order = v .order;
         };
@@ -326,6 +329,7 @@ load-start T Q S a b = record {
     queue = refl;
     leftmask = refl;
     rightmask = refl;
+    lit = omega arith;
     size = refl;
     order = le-refl 0;
   };

@@ -15,7 +15,7 @@ use lib.Seq.{drop-cons, getD-take}
 use borrow.Author.Tests.{eq-eqb, ne-eqb, lt-ltb, le-ltb}
 use Rattle.calculus.specs.declared.Side.{Side}
 use Rattle.calculus.specs.declared.Side.the-variants.{Left, Right}
-use Rattle.calculus.specs.Limits.{CONNECTIVES}
+use Rattle.calculus.specs.Limits.{LETTERS, CONNECTIVES}
 use Rattle.calculus.specs.Syntax.{Connective, NOT, two, Formula, Compound, compound, whole, Sequent, on-side, connectives}
 use Rattle.calculus.specs.Tree.{letters, state, First, missing, here, first, due, tests}
 use Rattle.calculus.proofs.Trees.{stands, Stands}
@@ -112,6 +112,7 @@ module _ (T Q : List ℕ) (S : Sequent) where
             inside = l .2;
             leftmask = h .leftmask;
             rightmask = h .rightmask;
+            lit = h .lit;
             order = h .order;
           };
           size = refl;
@@ -121,7 +122,7 @@ module _ (T Q : List ℕ) (S : Sequent) where
 
   -- on the right, with the first that waited fetched
   module _ (s r : Sets) (front back : List Formula) (w : S .on-right ≡ front ++ back) (a : Rising T 0 CONNECTIVES front (r .first)) (z : Rising T 0 CONNECTIVES (S .on-left) 0)
-      (e : r .left ≡ 0) (q : Lined T CONNECTIVES back (drop (r .from) (take (r .to) Q))) (m : r .leftmask ≡ state (letters (S .on-left))) (k : r .rightmask ≡ state (letters (S .on-right)))
+      (e : r .left ≡ 0) (q : Lined T CONNECTIVES back (drop (r .from) (take (r .to) Q))) (m : r .leftmask ≡ state (letters (S .on-left))) (k : r .rightmask ≡ state (letters (S .on-right))) (y : r .leftmask < 2 ^ LETTERS)
       (o : r .from ≤ r .to) (i : r .size ≡ s .size) (j : r .connectives ≡ s .connectives) (u : r .to ≡ s .to) where
     found-right : (r .first ≡ 0 → ⊥) → Found s (dueRight r)
     found-right n =
@@ -149,6 +150,7 @@ module _ (T Q : List ℕ) (S : Sequent) where
             inside = l .2;
             leftmask = m;
             rightmask = k;
+            lit = y;
             order = o;
           };
           size = i;
@@ -163,7 +165,7 @@ module _ (T Q : List ℕ) (S : Sequent) where
     found-first : (s .first ≡ 0 → ⊥) → Found s (dueRight (fetched Q s))
     found-first n =
         let f : fetched Q s ≡ s = rw (ne-eqb (s .first) 0 n) in
-        rw f (found-right s s (h .front) (h .back) (h .right) (h .first) none-left e (h .queue) (h .leftmask) (h .rightmask) (h .order) refl refl refl n)
+        rw f (found-right s s (h .front) (h .back) (h .right) (h .first) none-left e (h .queue) (h .leftmask) (h .rightmask) (h .lit) (h .order) refl refl refl n)
 
     found-waiting : s .first ≡ 0 → s .from < s .to → Found s (dueRight (fetched Q s))
     found-waiting z o =
@@ -171,7 +173,7 @@ module _ (T Q : List ℕ) (S : Sequent) where
         let g = lined-fetch T CONNECTIVES (h .back) n (drop (s .from + 1) (take (s .to) Q)) (rw (queue-first Q (s .from) (s .to) o l) at (h .queue)) in
         let r : Sets = record {
           left = s .left;
-          first = 2 ^ n;
+          first = 2 ^ (n - LETTERS);
           leftmask = s .leftmask;
           rightmask = s .rightmask;
           from = s .from + 1;
@@ -183,8 +185,8 @@ module _ (T Q : List ℕ) (S : Sequent) where
         let c : Rising T 0 CONNECTIVES (h .front) 0 = rw z at (h .first) in
         rw f
         (found-right s r (h .front ++ g .front) (g .back) (h .right ∙ ap (λ (b : List Formula). h .front ++ b) (g .whole) ∙ sym (append-assoc (h .front) (g .front) (g .back)))
-        (rw (zero-add (2 ^ n)) at (rising-append T 0 0 CONNECTIVES (h .front) (g .front) 0 (2 ^ n) (rising-empty T 0 CONNECTIVES (h .front) c 0 0 (le-refl 0)) (g .first)))
-        none-left e (g .queue) (h .leftmask) (h .rightmask) (omega arith) refl refl refl (λ d. omega (arith, pow-pos n)))
+        (rw (zero-add (2 ^ (n - LETTERS))) at (rising-append T 0 0 CONNECTIVES (h .front) (g .front) 0 (2 ^ (n - LETTERS)) (rising-empty T 0 CONNECTIVES (h .front) c 0 0 (le-refl 0)) (g .first)))
+        none-left e (g .queue) (h .leftmask) (h .rightmask) (h .lit) (omega arith) refl refl refl (λ d. omega (arith, pow-pos (n - LETTERS))))
 
     found-nothing : s .first ≡ 0 → s .to ≤ s .from → Found s (dueRight (fetched Q s))
     found-nothing z o =
@@ -209,6 +211,7 @@ module _ (T Q : List ℕ) (S : Sequent) where
           rw (eq-eqb (s .left) 0 e) (found-nothing s h l e (omega arith) (omega arith))
 
   -- the first that waits has a number
-  pub fetch-fits : (s : Sets) → Shows T CONNECTIVES Q s S → s .to ≤ length Q → s .from < s .to → getD Q (s .from) 0 < 64
+  pub fetch-fits : (s : Sets) → Shows T CONNECTIVES Q s S → s .to ≤ length Q → s .from < s .to → (LETTERS ≤ getD Q (s .from) 0) × (getD Q (s .from) 0 < LETTERS + 64)
   fetch-fits s h l o =
-      omega (arith, lined-fetch T CONNECTIVES (h .back) (getD Q (s .from) 0) (drop (s .from + 1) (take (s .to) Q)) (rw (queue-first Q (s .from) (s .to) o l) at (h .queue)) .inside)
+      let g = lined-fetch T CONNECTIVES (h .back) (getD Q (s .from) 0) (drop (s .from + 1) (take (s .to) Q)) (rw (queue-first Q (s .from) (s .to) o l) at (h .queue)) in
+      (g .compound, omega (arith, g .inside))

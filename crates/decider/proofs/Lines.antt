@@ -8,6 +8,7 @@ use native.Mathlib.Numerals.{add-one}
 use native.Mathlib.Omega.{arith}
 use lib.ListN.{length, take, drop, getD}
 use lib.Pow.{pow-add, pow-mono, pow-pos}
+use Rattle.calculus.specs.Limits.{LETTERS}
 use Rattle.calculus.specs.Syntax.{NOT, two, Formula, letter, neg, join, Compound, whole, connectives}
 use Rattle.calculus.specs.Tree.{First, missing, here, later, first}
 use Rattle.decider.specs.Names.{name, node, Told, Leads, Rising, Waits, Lined}
@@ -226,38 +227,43 @@ lined-none T e (neg x ∷ xs) h = let z : _≡_ {A = ℕ} 0 1 = cc (h .split) in
 lined-none T e (join o x y ∷ xs) h = let z : _≡_ {A = ℕ} 0 1 = cc (h .split) in absurd (omega arith)
 
 -- the first that waits becomes a set of its own
-pub record Fetches (T : List ℕ) (e : ℕ) (xs : List Formula) (n : ℕ) (ns : List ℕ) : Type 0 where
+pub record Fetches (T : List ℕ) (e : ℕ) (xs : List Formula) (d : ℕ) (ns : List ℕ) : Type 0 where
   pub front : List Formula
   pub back : List Formula
   pub whole : xs ≡ front ++ back
-  pub inside : n < e
-  pub first : Rising T 0 e front (2 ^ n)
+  pub compound : LETTERS ≤ d
+  pub inside : d < LETTERS + e
+  pub first : Rising T 0 e front (2 ^ (d - LETTERS))
   pub queue : Lined T e back ns
 
-pub lined-fetch : (T : List ℕ) (e : ℕ) (xs : List Formula) (n : ℕ) (ns : List ℕ) → Lined T e xs (n ∷ ns) → Fetches T e xs n ns
-lined-fetch T e [] n ns h = let z : _≡_ {A = ℕ} 0 1 = cc in absurd (omega arith)
-lined-fetch T e (letter k ∷ xs) n ns h =
-    let f = lined-fetch T e xs n ns h in
-    record { front = letter k ∷ f .front; back = f .back; whole = ap (λ (l : List Formula). letter k ∷ l) (f .whole); inside = f .inside; first = f .first; queue = f .queue }
-lined-fetch T e (neg x ∷ xs) n ns h =
-    let a : n ≡ h .number = cc (h .split) in
+pub lined-fetch : (T : List ℕ) (e : ℕ) (xs : List Formula) (d : ℕ) (ns : List ℕ) → Lined T e xs (d ∷ ns) → Fetches T e xs d ns
+lined-fetch T e [] d ns h = let z : _≡_ {A = ℕ} 0 1 = cc in absurd (omega arith)
+lined-fetch T e (letter k ∷ xs) d ns h =
+    let f = lined-fetch T e xs d ns h in
+    record { front = letter k ∷ f .front; back = f .back; whole = ap (λ (l : List Formula). letter k ∷ l) (f .whole); compound = f .compound; inside = f .inside; first = f .first; queue = f .queue }
+lined-fetch T e (neg x ∷ xs) d ns h =
+    let a : d ≡ LETTERS + h .number = cc (h .split) in
     let b : ns ≡ h .rest = cc (h .split) in
+    let m : LETTERS + h .number - LETTERS ≡ h .number = omega arith in
     rw (a, b) (record {
       front = neg x ∷ [];
       back = xs;
       whole = refl;
+      compound = omega arith;
       inside = omega (arith, h .inside);
-      first = record { number = h .number; rest = 0; from = omega arith; told = h .told; split = omega arith; behind = (refl, h .inside) };
+      first = record { number = h .number; rest = 0; from = omega arith; told = h .told; split = ap (λ (k : ℕ). 2 ^ k) m ∙ sym (add-zero _); behind = (refl, h .inside) };
       queue = h .behind;
     })
-lined-fetch T e (join o x y ∷ xs) n ns h =
-    let a : n ≡ h .number = cc (h .split) in
+lined-fetch T e (join o x y ∷ xs) d ns h =
+    let a : d ≡ LETTERS + h .number = cc (h .split) in
     let b : ns ≡ h .rest = cc (h .split) in
+    let m : LETTERS + h .number - LETTERS ≡ h .number = omega arith in
     rw (a, b) (record {
       front = join o x y ∷ [];
       back = xs;
       whole = refl;
+      compound = omega arith;
       inside = omega (arith, h .inside);
-      first = record { number = h .number; rest = 0; from = omega arith; told = h .told; split = omega arith; behind = (refl, h .inside) };
+      first = record { number = h .number; rest = 0; from = omega arith; told = h .told; split = ap (λ (k : ℕ). 2 ^ k) m ∙ sym (add-zero _); behind = (refl, h .inside) };
       queue = h .behind;
     })

@@ -32,8 +32,8 @@ use Rattle.decider.proofs.Lines.{rising-wider, rising-append, lined-app
 compound-bit : (m : ℕ) → bitOf true (LETTERS + m) ≡ 2 ^ m
 compound-bit m = let e : LETTERS + m - LETTERS ≡ m = omega arith in rw (le-ltb (LETTERS + m) LETTERS (omega arith), e)
 
-compound-waits : (m : ℕ) → waiting true (LETTERS + m) ≡ m ∷ []
-compound-waits m = let e : LETTERS + m - LETTERS ≡ m = omega arith in rw (le-ltb (LETTERS + m) LETTERS (omega arith), e)
+compound-waits : (m : ℕ) → waiting true (LETTERS + m) ≡ (LETTERS + m) ∷ []
+compound-waits m = rw (le-ltb (LETTERS + m) LETTERS (omega arith))
 
 compound-lamp : (m : ℕ) → lampOf true (LETTERS + m) ≡ 0
 compound-lamp m = rw (le-ltb (LETTERS + m) LETTERS (omega arith))

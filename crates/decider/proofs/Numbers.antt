@@ -4,7 +4,7 @@ use mathlib.Core.Path.{_≡_, refl, sym, ap, _∙_}
 use mathlib.Core.Bool.{Bool, true, false}
 use mathlib.Core.List.{List, [], _∷_, _++_, append-nil, append-assoc}
 use Prim.Native.Nat.{ℕ, zero, suc, _+_, _-_, _*_, _/_, _%_, _^_, _≤_, _<_}
-use native.Mathlib.Nat.{one-mul, mod-eq-of-lt, pow-suc, mul-assoc, mul-comm, add-zero}
+use native.Mathlib.Nat.{one-mul, mod-eq-of-lt, pow-suc, mul-assoc, add-zero, le-refl}
 use native.Mathlib.Numerals.{add-one}
 use native.Mathlib.Omega.{arith}
 use lib.Count.{trailingZeros, under}
@@ -12,7 +12,7 @@ use lib.Dec.{ltb}
 use lib.ListN.{length, take, set, length-append}
 use lib.Pow.{pow-lt, pow-mono}
 use lib.Seq.{take-suc-set}
-use borrow.Author.Tests.{le-ltb, lt-ltb}
+use borrow.Author.Tests.{le-ltb, lt-ltb, ltb-true}
 use Rattle.calculus.specs.Limits.{LETTERS, CONNECTIVES}
 use Rattle.decider.specs.Names.{bitOf, lampOf, waiting}
 
@@ -27,10 +27,18 @@ bit-small true d h = go (ltb d LETTERS)
     go true = omega arith
     go false = pow-mono {j = CONNECTIVES} (omega arith)
 
+pub lamp-small : (b : Bool) (d : ℕ) → lampOf b d < 2 ^ LETTERS
+lamp-small false d = omega arith
+lamp-small true d = go (ltb d LETTERS) refl
+  where
+    go : (k : Bool) → ltb d LETTERS ≡ k → Rattle.calculus.specs.Fold.choose k (2 ^ d) 0 < 2 ^ LETTERS
+    go true e = pow-lt (ltb-true d LETTERS e)
+    go false e = omega arith
+
 pub waiting-letter : (d : ℕ) → d < LETTERS → waiting true d ≡ []
 waiting-letter d h = rw (lt-ltb d LETTERS h)
 
-pub waiting-compound : (d : ℕ) → LETTERS ≤ d → waiting true d ≡ (d - LETTERS) ∷ []
+pub waiting-compound : (d : ℕ) → LETTERS ≤ d → waiting true d ≡ d ∷ []
 waiting-compound d h = rw (le-ltb d LETTERS h)
 
 -- ---- the lowest
@@ -52,12 +60,18 @@ lowest-bit n h l = lowest-by 64 n h l
 
 -- ---- the queue's end
 
-pub pushed-compound : (Q : List ℕ) (to d : ℕ) (b : Bool) → b ≡ true → LETTERS ≤ d → to < length Q
-    → (to + 1 ≡ to + length (waiting b d)) × (take (to + 1) (set Q to (d - LETTERS)) ≡ take to Q ++ waiting b d)
-pushed-compound Q to d b e h l = rw (e, waiting-compound d h) (refl, rw (add-one to) (take-suc-set Q to (d - LETTERS) l))
+take-set : (Q : List ℕ) (i v n : ℕ) → n ≤ i → take n (set Q i v) ≡ take n Q
+take-set Q i v zero h = refl
+take-set [] i v (suc n) h = refl
+take-set (x ∷ Q) zero v (suc n) h = absurd (omega arith)
+take-set (x ∷ Q) (suc i) v (suc n) h = ap (λ (l : List ℕ). x ∷ l) (take-set Q i v n (omega arith))
 
-pub pushed-nothing : (Q : List ℕ) (to d : ℕ) (b : Bool) → waiting b d ≡ [] → (to ≡ to + length (waiting b d)) × (take to Q ≡ take to Q ++ waiting b d)
-pushed-nothing Q to d b e = rw e (sym (add-zero to), sym (append-nil (take to Q)))
+pub pushed-compound : (Q : List ℕ) (to d : ℕ) (b : Bool) → b ≡ true → LETTERS ≤ d → to < length Q
+    → (to + 1 ≡ to + length (waiting b d)) × (take (to + 1) (set Q to d) ≡ take to Q ++ waiting b d)
+pushed-compound Q to d b e h l = rw (e, waiting-compound d h) (refl, rw (add-one to) (take-suc-set Q to d l))
+
+pub pushed-nothing : (Q : List ℕ) (to d : ℕ) (b : Bool) → waiting b d ≡ [] → (to ≡ to + length (waiting b d)) × (take to (set Q to d) ≡ take to Q ++ waiting b d)
+pushed-nothing Q to d b e = rw e (sym (add-zero to), take-set Q to d to (le-refl to) ∙ sym (append-nil (take to Q)))
 
 -- a set that is not empty has a lowest
 pub lowest-in : (w σ : ℕ) → 0 < σ → σ < 2 ^ w → (trailingZeros w σ < w) × (2 ^ trailingZeros w σ ≤ σ)
@@ -76,7 +90,7 @@ pub waiting-short : (b : Bool) (d : ℕ) → length (waiting b d) ≤ 1
 waiting-short false d = omega arith
 waiting-short true d = go (ltb d LETTERS)
   where
-    go : (k : Bool) → length (Rattle.calculus.specs.Fold.choose k [] ((d - LETTERS) ∷ [])) ≤ 1
+    go : (k : Bool) → length (Rattle.calculus.specs.Fold.choose k [] (d ∷ [])) ≤ 1
     go true = omega arith
     go false = omega arith
 

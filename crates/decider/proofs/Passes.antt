@@ -7,7 +7,7 @@ use mathlib.Core.List.{List, [], _∷_, _++_, map, append-assoc, append-nil}
 use Prim.Native.Nat.{ℕ, zero, suc, _+_, _-_, _*_, _^_, _≤_, _<_}
 use native.Mathlib.Nat.{add-zero, zero-add, le-refl, le-trans}
 use native.Mathlib.Omega.{arith}
-use lib.Bits.{bitOr}
+use lib.Bits.{bitOr, or-lt}
 use lib.Dec.{eqb}
 use lib.ListN.{length, take, drop, getElem?, length-append, length-take}
 use lib.Pow.{pow-mono}
@@ -29,15 +29,15 @@ use Rattle.calculus.proofs.Bounds.{closings-bound, W-bound}
 use Rattle.calculus.proofs.Budgets.{spend-closings, outcome-step}
 use Rattle.sequent.specs.declared.Placing.{Placing}
 use Rattle.sequent.specs.declared.Rule.{Rule}
-use Rattle.sequent.specs.Rule.{partsOn, premiseOf}
+use Rattle.sequent.specs.Rule.{sideCode, partsOn, premiseOf}
 use Rattle.sequent.specs.View.{bitOf as letterBit}
 use Rattle.sequent.proofs.Masks.{OR, state-fold, fold-splice}
 use Rattle.sequent.proofs.Premises.{bit-whole}
 use Rattle.decider.specs.declared.Sets.{Sets}
 use Rattle.decider.specs.declared.Reduction.{Reduction}
-use Rattle.decider.specs.Names.{Rising, Lined, waiting}
-use Rattle.decider.specs.States.{partBits, partLamps, partsWaiting, setOf, replaced, appended, Takes, Shows, Runs, Led, Lacks, firstName, secondName, Reduces}
-use Rattle.decider.proofs.Numbers.{waiting-short}
+use Rattle.decider.specs.Names.{lampOf, waiting, Rising, Lined}
+use Rattle.decider.specs.States.{kindOf, partBits, partLamps, partsWaiting, setOf, replaced, appended, Takes, Shows, Runs, Led, Lacks, firstName, secondName, Reduces}
+use Rattle.decider.proofs.Numbers.{lamp-small, waiting-short}
 use Rattle.decider.proofs.Lines.{rising-wider, rising-append, rising-empty, rising-bound, rising-splice, lined-append}
 use Rattle.decider.proofs.Naming.{Fair, node-told, parts-rising, parts-lined, parts-lamps}
 use Rattle.decider.proofs.Rows.{premiseBy, RuleFor, rule-for, premises-by, premise-size}
@@ -52,6 +52,10 @@ mask-splice : (xs new : List Formula) (i : ℕ) (x : Compound) (m k : ℕ) → g
     → bitOr m k ≡ state (letters (splice i new xs))
 mask-splice xs new i x m k d e f =
     rw (e, f, state-fold xs, state-fold new) (sym (state-fold (splice i new xs) ∙ fold-splice OR letterBit xs i (whole x) new d (bit-whole x)))
+
+lamps-small : (t : Side) (p : Placing) (f g : ℕ) → partLamps t p f g < 2 ^ LETTERS
+lamps-small t p f g =
+    or-lt LETTERS (lampOf (eqb (p .f) (sideCode t)) f) (lampOf (eqb (p .g) (sideCode t)) g) (lamp-small (eqb (p .f) (sideCode t)) f) (lamp-small (eqb (p .g) (sideCode t)) g)
 
 -- ---- lists
 
@@ -104,6 +108,7 @@ module _ (T Q : List ℕ) (n i : ℕ) (x : Compound) (s : Sets) (S : Sequent) (p
         first = l .first;
         queue = rw d (lined-append T CONNECTIVES (l .back) ms (drop (s .from) (take (s .to) Q)) (partsWaiting Right p (firstName n x) (secondName n x)) (l .queue) (parts-lined T n x (h .told) p q CONNECTIVES (h .inside)));
         leftmask = mask-splice (S .on-left) ks i x (s .leftmask) (partLamps Left p (firstName n x) (secondName n x)) (h .due) (h .leftmask) (parts-lamps T n x (h .told) p q Left);
+        lit = or-lt LETTERS (s .leftmask) (partLamps Left p (firstName n x) (secondName n x)) (h .lit) (lamps-small Left p (firstName n x) (secondName n x));
         rightmask = mask-append (S .on-right) ms (s .rightmask) (partLamps Right p (firstName n x) (secondName n x)) (h .rightmask) (parts-lamps T n x (h .told) p q Right);
         size = z;
         order = omega (arith, h .order);
@@ -125,6 +130,7 @@ module _ (T Q : List ℕ) (n i : ℕ) (x : Compound) (s : Sets) (S : Sequent) (p
         first = rising-splice T n CONNECTIVES x i (l .front) ks (s .first) (partBits Right p (firstName n x) (secondName n x)) (l .led) (parts-rising T n x (h .told) p q Right);
         queue = rw e (l .queue);
         leftmask = mask-append (S .on-left) ms (s .leftmask) (partLamps Left p (firstName n x) (secondName n x)) (h .leftmask) (parts-lamps T n x (h .told) p q Left);
+        lit = or-lt LETTERS (s .leftmask) (partLamps Left p (firstName n x) (secondName n x)) (h .lit) (lamps-small Left p (firstName n x) (secondName n x));
         rightmask = mask-splice (S .on-right) ks i x (s .rightmask) (partLamps Right p (firstName n x) (secondName n x)) (h .due) (h .rightmask) (parts-lamps T n x (h .told) p q Right);
         size = z;
         order = h .order;
@@ -192,6 +198,7 @@ lacks-kept Left T Q R n i x s S e h =
       inside = h .inside;
       leftmask = h .leftmask;
       rightmask = h .rightmask;
+      lit = h .lit;
       order = h .order;
     }
 lacks-kept Right T Q R n i x s S e h =
@@ -203,6 +210,7 @@ lacks-kept Right T Q R n i x s S e h =
       inside = h .inside;
       leftmask = h .leftmask;
       rightmask = h .rightmask;
+      lit = h .lit;
       order = h .order;
     }
 
@@ -314,3 +322,21 @@ module _ (T Q : List ℕ) (i : ℕ) (x : Compound) (S : Sequent) (d : Reduction)
         let p = premiseBy (d .side) i x S (d .rule .second) in
         let y : pass outcome (o .unspent) (p ∷ []) ≡ v = pass-last (outcome (o .unspent) p) ∙ sym w in
         (λ j. record { kind = x₁ j; unspent = x₂ j; closings = x₃ j }) ∙ sym (rw (two a, ← e, k, y))
+
+-- ---- endings
+
+pub refuted-ending : (σ : ℕ) → kindOf (3 + σ) ≡ Refuted σ
+refuted-ending σ =
+    let e : 3 + σ - 3 ≡ σ = omega arith in
+    rw (ne-eqb (3 + σ) 0 (λ z. omega arith), ne-eqb (3 + σ) 1 (λ z. omega arith), ne-eqb (3 + σ) 2 (λ z. omega arith), e)
+
+pub theorem-ending : (n : ℕ) → n ≡ 0 → kindOf n ≡ Theorem
+theorem-ending n e = rw (eq-eqb n 0 e)
+
+pub other-ending : (n : ℕ) → (n ≡ 0 → ⊥) → kindOf n ≡ Theorem → ⊥
+other-ending n h = rw (ne-eqb n 0 h) (go (eqb n 1) (eqb n 2))
+  where
+    go : (a b : Bool) → choose a Spent (choose b Full (Refuted (n - 3))) ≡ Theorem → ⊥
+    go true b e = let z : _≡_ {A = ℕ} 0 1 = cc in omega arith
+    go false true e = let z : _≡_ {A = ℕ} 0 1 = cc in omega arith
+    go false false e = let z : _≡_ {A = ℕ} 0 1 = cc in omega arith

@@ -85,6 +85,7 @@ lacks-resized Left T Q n i x s S m h =
       inside = h .inside;
       leftmask = h .leftmask;
       rightmask = h .rightmask;
+      lit = h .lit;
       order = h .order;
     }
 lacks-resized Right T Q n i x s S m h =
@@ -96,6 +97,7 @@ lacks-resized Right T Q n i x s S m h =
       inside = h .inside;
       leftmask = h .leftmask;
       rightmask = h .rightmask;
+      lit = h .lit;
       order = h .order;
     }
 

@@ -39,7 +39,7 @@ lampOf true d = choose (ltb d LETTERS) (2 ^ d) 0
 lampOf false d = 0
 
 abbrev pub waiting : Bool → ℕ → List ℕ
-waiting true d = choose (ltb d LETTERS) [] ((d - LETTERS) ∷ [])
+waiting true d = choose (ltb d LETTERS) [] (d ∷ [])
 waiting false d = []
 
 -- ---- a list of formulas, letters left out
@@ -65,10 +65,10 @@ pub record Waits (T : List ℕ) (e : ℕ) (x : Formula) (Rest : List ℕ → Typ
   pub rest : List ℕ
   pub told : Told T number x
   pub inside : number + connectives x ≤ e
-  pub split : ns ≡ number ∷ rest
+  pub split : ns ≡ (LETTERS + number) ∷ rest
   pub behind : Rest rest
 
--- ns are their numbers, with all connectives below e
+-- ns are their names, with all connectives below e
 abbrev pub Lined : List ℕ → ℕ → List Formula → List ℕ → Type 0
 Lined T e [] ns = ns ≡ []
 Lined T e (letter k ∷ xs) ns = Lined T e xs ns

@@ -10,8 +10,11 @@ use lib.Dec.{eqb, ltb}
 use lib.ListN.{length, take, drop, getD, getElem?}
 use Rattle.calculus.specs.declared.Side.{Side}
 use Rattle.calculus.specs.declared.Side.the-variants.{Left, Right}
+use Rattle.calculus.specs.declared.Kind.{Kind}
+use Rattle.calculus.specs.declared.Kind.the-variants.{Theorem, Refuted, Spent as spent, Full as filled}
+use Rattle.calculus.specs.declared.Outcome.{Outcome}
 use Rattle.calculus.specs.Fold.{choose, Each}
-use Rattle.calculus.specs.Limits.{ROOM, CONNECTIVES}
+use Rattle.calculus.specs.Limits.{ROOM, LETTERS, CONNECTIVES}
 use Rattle.calculus.specs.Syntax.{Connective, NOT, two, Formula, Compound, whole, Sequent, on-side, connectives, c, size}
 use Rattle.calculus.specs.Bytes.{CONNECTIVE, code}
 use Rattle.calculus.specs.Table.{table}
@@ -23,6 +26,7 @@ use Rattle.decider.specs.declared.Sets.{Sets}
 use Rattle.decider.specs.declared.Due.{Due}
 use Rattle.decider.specs.declared.Due.the-variants.{At, Nothing}
 use Rattle.decider.specs.declared.Reduction.{Reduction}
+use Rattle.decider.specs.declared.Tally.{Tally}
 use Rattle.decider.specs.declared.Answer.{Answer}
 use Rattle.decider.specs.declared.Answer.the-variants.{Closed, Open, Full, Spent, Reduce}
 use Rattle.decider.specs.Names.{name, node, Told, bitOf, lampOf, waiting, Rising, Lined}
@@ -94,7 +98,7 @@ Takes Right p f g n s = s .to + 2 ≤ n
 abbrev pub fetched : List ℕ → Sets → Sets
 fetched Q s = choose (eqb (s .first) 0) (choose (ltb (s .from) (s .to)) (record {
   left = s .left;
-  first = 2 ^ getD Q (s .from) 0;
+  first = 2 ^ (getD Q (s .from) 0 - LETTERS);
   leftmask = s .leftmask;
   rightmask = s .rightmask;
   from = s .from + 1;
@@ -148,6 +152,7 @@ pub record Shows (T : List ℕ) (e : ℕ) (Q : List ℕ) (s : Sets) (S : Sequent
   pub queue : Lined T e back (drop (s .from) (take (s .to) Q))
   pub leftmask : s .leftmask ≡ state (letters (S .on-left))
   pub rightmask : s .rightmask ≡ state (letters (S .on-right))
+  pub lit : s .leftmask < 2 ^ LETTERS
   pub size : s .size ≡ size S
   pub order : s .from ≤ s .to
 
@@ -197,6 +202,7 @@ pub record Lacks (t : Side) (T : List ℕ) (e : ℕ) (Q : List ℕ) (n i : ℕ) 
   pub inside : n + connectives (whole x) ≤ e
   pub leftmask : s .leftmask ≡ state (letters (S .on-left))
   pub rightmask : s .rightmask ≡ state (letters (S .on-right))
+  pub lit : s .leftmask < 2 ^ LETTERS
   pub order : s .from ≤ s .to
 
 -- the parts of a compound that is counted from n
@@ -272,3 +278,11 @@ Reducing w t b s (Open σ) = ⊥
 Reducing w t b s Full = (n : ℕ) × Counted w t s n × (ROOM < n)
 Reducing w t b s Spent = (n : ℕ) × Counted w t s n × (n ≤ ROOM) × (b ≡ 0)
 Reducing w t b s (Reduce d) = Reduced w t b s d
+
+-- ---- what a run comes to
+
+abbrev pub kindOf : ℕ → Kind
+kindOf n = choose (eqb n 0) Theorem (choose (eqb n 1) spent (choose (eqb n 2) filled (Refuted (n - 3))))
+
+abbrev pub outcomeOf : Tally → Outcome
+outcomeOf t = record { kind = kindOf (t .ending); unspent = t .unspent; closings = t .closings }

@@ -20,22 +20,22 @@ ghost use Rattle.question.specs.Positions.{Well, formulaAt, endOf};
 ghost use Rattle.sequent.specs.Rule.{sideCode, premiseOf};
 ghost use Rattle.decider.specs.Names.{name, node, Told, bitOf, lampOf, waiting};
 ghost use Rattle.decider.specs.Loads.{named, Numbered, Loads, Enters, entered, upTo};
-ghost use Rattle.decider.specs.States.{partBits, partLamps, partsWaiting, setOf, replaced, appended, fetched, lowest, dueIn, placedOf, Takes, Reducing, Shows, Runs, Reduces, Took};
+ghost use Rattle.decider.specs.States.{kindOf, outcomeOf, partBits, partLamps, partsWaiting, setOf, replaced, appended, fetched, lowest, dueIn, placedOf, Takes, Reducing, Shows, Runs, Reduces, Took};
 
 // The connectives of a question are numbered in the order of its bytes, and a compound formula is named by its connective.
 // `left` and `first` are sets of such numbers: the left side, and what is left of the right formula under reduction. The
 // other right formulas wait in a queue, from place `from` to place `to`. In `left` and `first` the lowest is due.
 pub struct Sets {
     pub left: u64,
-    pub first: u64,
-    pub leftmask: u32,
-    pub rightmask: u32,
     pub from: usize,
-    pub to: usize,
+    pub first: u64,
     // All formulas, letters too.
     pub size: usize,
+    pub leftmask: u64,
     // At most so many connectives.
     pub connectives: usize,
+    pub rightmask: u64,
+    pub to: usize,
 }
 
 // The first compound: its side, its connective's number and the state without it.
@@ -81,25 +81,25 @@ fn bit(wanted: bool, name: u8) -> u64
     0
 }
 
-fn lamp(wanted: bool, name: u8) -> u32
+fn lamp(wanted: bool, name: u8) -> u64
     ensures { λ r. ⌜ r ≡ lampOf wanted name ⌝ }
 {
     if wanted {
         if name < LETTERS {
-            return 1u32 << name;
+            return 1u64 << name;
         }
     }
     0
 }
 
-// A compound goes to the queue's end.
+// A compound goes to the queue's end. What is written behind the end does not count.
 fn push(queue: &mut [u8], to: usize, wanted: bool, name: u8) -> usize
     requires { ⌜ to < length (now queue) ⌝ }
     ensures { λ r. ⌜ (r ≡ to + length (waiting wanted name)) × (take r (now (queue .exit)) ≡ take to (now (queue .entry)) ++ waiting wanted name) ⌝ }
 {
+    queue[to] = name;
     if wanted {
         if LETTERS <= name {
-            queue[to] = name - LETTERS;
             return to + 1;
         }
     }
@@ -125,7 +125,7 @@ fn bits_on(side: Side, p: Placing, f: u8, g: u8) -> u64
 }
 
 // The letters among them.
-fn lamps_on(side: Side, p: Placing, f: u8, g: u8) -> u32
+fn lamps_on(side: Side, p: Placing, f: u8, g: u8) -> u64
     ensures { λ r. ⌜ r ≡ partLamps side p f g ⌝ }
 {
     let s = side_code(side);
@@ -196,13 +196,13 @@ impl Sets {
 
     // The first that waits comes to the right's set, if that is empty.
     fn fetch(mut self, queue: &[u8]) -> Sets
-        requires { ⌜ (self .to ≤ length (now queue)) × (self .from < self .to → getD (now queue) (self .from) 0 < 64) ⌝ }
+        requires { ⌜ (self .to ≤ length (now queue)) × (self .from < self .to → (LETTERS ≤ getD (now queue) (self .from) 0) × (getD (now queue) (self .from) 0 < LETTERS + 64)) ⌝ }
         ensures { λ r. ⌜ r ≡ fetched (now (queue .entry)) self ⌝ }
     {
         let from = self.from;
         if self.first == 0 {
             if from < self.to {
-                self.first = 1u64 << queue[from];
+                self.first = 1u64 << (queue[from] - LETTERS);
                 self.from = from + 1;
                 return self;
             }
@@ -212,7 +212,7 @@ impl Sets {
 
     // The first formula with a connective, the left side before the right.
     fn first_compound(mut self, queue: &[u8]) -> Due
-        requires { ⌜ (self .to ≤ length (now queue)) × (self .from < self .to → getD (now queue) (self .from) 0 < 64) ⌝ }
+        requires { ⌜ (self .to ≤ length (now queue)) × (self .from < self .to → (LETTERS ≤ getD (now queue) (self .from) 0) × (getD (now queue) (self .from) 0 < LETTERS + 64)) ⌝ }
         ensures { λ r. ⌜ r ≡ dueIn (now (queue .entry)) self ⌝ }
     {
         if self.left != 0 {
@@ -293,35 +293,43 @@ impl Sets {
         let due = self.first_compound(queue);
         match due {
             Due::At(side, n, rest) => rest.reduction(nodes, side, n, left),
-            Due::Nothing => Answer::Open(self.leftmask),
+            Due::Nothing => Answer::Open(self.leftmask as u32),
         }
     }
 }
 
-// The outcome of a running sequent, with the reductions left going in and coming out.
-fn run(nodes: &[u32], queue: &mut [u8], s: Sets, left: u64) -> Outcome
+// How a run ends, as one number: 0 THEOREM, 1 SPENT, 2 FULL, and 3 more than the state where it is refuted.
+// Beside it the reductions left and the sequents closed.
+pub struct Tally {
+    pub ending: u64,
+    pub unspent: u64,
+    pub closings: u64,
+}
+
+// What a running sequent comes to, with the reductions left going in and coming out.
+fn run(nodes: &[u32], queue: &mut [u8], s: Sets, left: u64) -> Tally
     requires { ⌜ ((S : Sequent) × Runs (now nodes) (now queue) s S) ⌝ }
-    ensures { λ r. ⌜ ((S : Sequent) → Runs (now (nodes .entry)) (now (queue .entry)) s S → r ≡ outcome left S) × (take (s .to) (now (queue .exit)) ≡ take (s .to) (now (queue .entry))) ⌝ }
+    ensures { λ r. ⌜ ((S : Sequent) → Runs (now (nodes .entry)) (now (queue .entry)) s S → outcomeOf r ≡ outcome left S) × (take (s .to) (now (queue .exit)) ≡ take (s .to) (now (queue .entry))) × (r .ending < 3 + 2 ^ LETTERS) ⌝ }
 {
     let answer = s.step(nodes, queue, left);
     match answer {
-        Answer::Closed => Outcome {
-            kind: Kind::Theorem,
+        Answer::Closed => Tally {
+            ending: 0,
             unspent: left,
             closings: 1,
         },
-        Answer::Open(state) => Outcome {
-            kind: Kind::Refuted(state),
+        Answer::Open(state) => Tally {
+            ending: 3 + state as u64,
             unspent: left,
             closings: 0,
         },
-        Answer::Full => Outcome {
-            kind: Kind::Full,
+        Answer::Full => Tally {
+            ending: 2,
             unspent: left,
             closings: 0,
         },
-        Answer::Spent => Outcome {
-            kind: Kind::Spent,
+        Answer::Spent => Tally {
+            ending: 1,
             unspent: left,
             closings: 0,
         },
@@ -330,38 +338,47 @@ fn run(nodes: &[u32], queue: &mut [u8], s: Sets, left: u64) -> Outcome
 }
 
 // The first premise is finished, then the second is taken up.
-fn run_premises(nodes: &[u32], queue: &mut [u8], d: Reduction, left: u64) -> Outcome
+fn run_premises(nodes: &[u32], queue: &mut [u8], d: Reduction, left: u64) -> Tally
     requires { ⌜ ((i : ℕ) × (x : Compound) × (S : Sequent) × Reduces (now nodes) (now queue) i x S d) ⌝ }
-    ensures { λ r. ⌜ ((i : ℕ) (x : Compound) (S : Sequent) → Reduces (now (nodes .entry)) (now (queue .entry)) i x S d → r ≡ pass outcome left (premises (d .side) i x S)) × (take (d .rest .to) (now (queue .exit)) ≡ take (d .rest .to) (now (queue .entry))) ⌝ }
+    ensures { λ r. ⌜ ((i : ℕ) (x : Compound) (S : Sequent) → Reduces (now (nodes .entry)) (now (queue .entry)) i x S d → outcomeOf r ≡ pass outcome left (premises (d .side) i x S)) × (take (d .rest .to) (now (queue .exit)) ≡ take (d .rest .to) (now (queue .entry))) × (r .ending < 3 + 2 ^ LETTERS) ⌝ }
 {
     let side = d.side;
     let rule = d.rule;
-    let p = d.rest.premise(queue, side, rule.first, d.f, d.g);
+    let rest = d.rest;
+    let p = rest.premise(queue, side, rule.first, d.f, d.g);
     let o = run(nodes, queue, p, left);
     if rule.premises != 2 {
         return o;
     }
-    let kind = o.kind;
-    match kind {
-        Kind::Theorem => {
-            let p = d.rest.premise(queue, side, rule.second, d.f, d.g);
-            let v = run(nodes, queue, p, o.unspent);
-            joined(o, v)
-        }
-        _ => o,
+    if o.ending != 0 {
+        return o;
+    }
+    let p = rest.premise(queue, side, rule.second, d.f, d.g);
+    let v = run(nodes, queue, p, o.unspent);
+    joined(o, v)
+}
+
+// One after the other.
+fn joined(o: Tally, v: Tally) -> Tally
+    requires { ⌜ o .closings + v .closings < 2 ^ 64 ⌝ }
+    ensures { λ r. ⌜ (r .ending ≡ v .ending) × (r .unspent ≡ v .unspent) × (r .closings ≡ o .closings + v .closings) ⌝ }
+{
+    Tally {
+        ending: v.ending,
+        unspent: v.unspent,
+        closings: o.closings + v.closings,
     }
 }
 
-// Two outcomes, one after the other.
-fn joined(o: Outcome, v: Outcome) -> Outcome
-    requires { ⌜ o .closings + v .closings < 2 ^ 64 ⌝ }
-    ensures { λ r. ⌜ (r .kind ≡ v .kind) × (r .unspent ≡ v .unspent) × (r .closings ≡ o .closings + v .closings) ⌝ }
+fn kind(ending: u64) -> Kind
+    requires { ⌜ ending < 3 + 2 ^ LETTERS ⌝ }
+    ensures { λ r. ⌜ r ≡ kindOf ending ⌝ }
 {
-    let kind = v.kind;
-    Outcome {
-        kind: kind,
-        unspent: v.unspent,
-        closings: o.closings + v.closings,
+    match ending {
+        0 => Kind::Theorem,
+        1 => Kind::Spent,
+        2 => Kind::Full,
+        _ => Kind::Refuted((ending - 3) as u32),
     }
 }
 
@@ -491,5 +508,10 @@ pub fn run_question(q: &[u8], budget: u64) -> Outcome
     };
     let all = load(q, &mut nodes, &mut queue, Side::Right, between);
     let s = all.sets;
-    run(&nodes, &mut queue, s, budget)
+    let t = run(&nodes, &mut queue, s, budget);
+    Outcome {
+        kind: kind(t.ending),
+        unspent: t.unspent,
+        closings: t.closings,
+    }
 }

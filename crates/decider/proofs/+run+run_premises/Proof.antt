@@ -1,8 +1,6 @@
 -- The run and its premises: both functions meet their contracts.
 -- The measure is twice the connective count of the running sequent, and one more where its tests are still to be made. Assumes nothing.
 use mathlib.Core.Path.{_≡_, refl, sym, ap, _∙_}
-use mathlib.Core.List.{[], _∷_}
-use types.Run.{miss}
 use native.Mathlib.Omega.{arith}
 use borrow.Author.Needs.{needs}
 use lib.ListN.{length, take}
@@ -11,8 +9,8 @@ use Rattle.calculus.specs.Syntax.{Compound, Sequent}
 use Rattle.calculus.specs.declared.Outcome.{Outcome}
 use Rattle.calculus.specs.Tree.{outcome, Inner, isClosed, isOpen, isFull, isSpent, isDue}
 use Rattle.decider.specs.declared.Sets.{Sets}
-use Rattle.decider.specs.States.{Runs, Took, Reduces}
-use Rattle.decider.proofs.Passes.{premised-connectives, premise-kept, reduces-kept, due-left, answered, closings-small, first-runs, second-runs, first-asks, second-asks, pass-one, pass-stop, pass-two}
+use Rattle.decider.specs.States.{kindOf, outcomeOf, Runs, Took, Reduces}
+use Rattle.decider.proofs.Passes.{premised-connectives, premise-kept, reduces-kept, due-left, answered, closings-small, first-runs, second-runs, first-asks, second-asks, pass-one, pass-stop, pass-two, refuted-ending, theorem-ending, other-ending}
 use Rattle.decider.proofs.Rows.{premiseBy}
 use borrow.Fn.Kinds.{In}
 use borrow.Fn.PlainCycle.{Measures, is, falls, and}
@@ -52,10 +50,6 @@ run-premises-below t =
     (falls 2 run-premises-kinds.ps _<_ μ-run-premises t)
     run-premises.Pre
 
--- what the inner step said of a sequent
-abbrev Stepped : ℕ → Type 0
-Stepped t = run-lts.After-step (step-reads.Asked, step-reads.Learnt, run-premises-below t, run-premises.Post) (run-at t) run.Post
-
 -- after the first premise, and after the second
 abbrev Ran : ℕ → Type 0
 Ran t = run-premises-lts.After-run (premise-reads.Asked, premise-reads.Learnt, run-below t, run.Post, joined-reads.Asked, joined-reads.Learnt) (run-premises-at t) run-premises.Post
@@ -63,48 +57,47 @@ Ran t = run-premises-lts.After-run (premise-reads.Asked, premise-reads.Learnt, r
 abbrev Again : ℕ → Type 0
 Again t = run-premises-lts.After-run2 (premise-reads.Asked, premise-reads.Learnt, run-below t, run.Post, joined-reads.Asked, joined-reads.Learnt) (run-premises-at t) run-premises.Post
 
-module _ (t : ℕ) (c : Ran t) (i : ℕ) (x : Compound) (S : Sequent)
-    (h : Reduces (c .before .before .before .before .before .before .before .before .before .args .nodes .now) (c .before .before .before .before .before .before .before .before .before .args .queue .now) i x S (c .before .before .before .before .before .before .before .before .before .args .d)) where
-  runs-now : Runs (c .before .before .before .before .before .before .before .before .before .args .nodes .now) (c .before .before .before .before .premise .last .1 .0) (c .before .before .before .before .premise .result) (premiseBy (c .before .before .before .before .before .before .before .before .before .args .d .side) i x S (c .before .before .before .before .before .before .before .before .before .args .d .rule .first))
+module _ (t : ℕ) (c : Ran t) (i : ℕ) (x : Compound) (S : Sequent) (h : Reduces (c .before .before .before .before .before .before .before .before .before .before .args .nodes .now) (c .before .before .before .before .before .before .before .before .before .before .args .queue .now) i x S (c .before .before .before .before .before .before .before .before .before .before .args .d)) where
+  runs-now : Runs (c .before .before .before .before .before .before .before .before .before .before .args .nodes .now) (c .before .before .before .before .premise .last .1 .0) (c .before .before .before .before .premise .result) (premiseBy (c .before .before .before .before .before .before .before .before .before .before .args .d .side) i x S (c .before .before .before .before .before .before .before .before .before .before .args .d .rule .first))
   runs-now =
-      let a = c .before .before .before .before .before .before .before .before .before .args in
+      let a = c .before .before .before .before .before .before .before .before .before .before .args in
       let p = c .before .before .before .before .premise in
       first-runs (a .nodes .now) (a .queue .now) i x S (a .d) h (p .last .1 .0) (p .result) (p .ensures .0) (p .ensures .1) (p .kept .1 .0)
 
-  first-now : c .run .result ≡ outcome (c .before .before .before .before .before .before .before .before .before .args .left) (premiseBy (c .before .before .before .before .before .before .before .before .before .args .d .side) i x S (c .before .before .before .before .before .before .before .before .before .args .d .rule .first))
-  first-now = c .run .ensures .0 (premiseBy (c .before .before .before .before .before .before .before .before .before .args .d .side) i x S (c .before .before .before .before .before .before .before .before .before .args .d .rule .first)) runs-now
+  first-now : outcomeOf (c .run .result) ≡ outcome (c .before .before .before .before .before .before .before .before .before .before .args .left) (premiseBy (c .before .before .before .before .before .before .before .before .before .before .args .d .side) i x S (c .before .before .before .before .before .before .before .before .before .before .args .d .rule .first))
+  first-now = c .run .ensures .0 (premiseBy (c .before .before .before .before .before .before .before .before .before .before .args .d .side) i x S (c .before .before .before .before .before .before .before .before .before .before .args .d .rule .first)) runs-now
 
-  kept-now : take (c .before .before .before .before .before .before .before .before .before .args .d .rest .to) (c .run .last .1 .0) ≡ take (c .before .before .before .before .before .before .before .before .before .args .d .rest .to) (c .before .before .before .before .before .before .before .before .before .args .queue .now)
+  kept-now : take (c .before .before .before .before .before .before .before .before .before .before .args .d .rest .to) (c .run .last .1 .0) ≡ take (c .before .before .before .before .before .before .before .before .before .before .args .d .rest .to) (c .before .before .before .before .before .before .before .before .before .before .args .queue .now)
   kept-now =
-      let a = c .before .before .before .before .before .before .before .before .before .args in
+      let a = c .before .before .before .before .before .before .before .before .before .before .args in
       let p = c .before .before .before .before .premise in
       premise-kept (a .nodes .now) (a .queue .now) i x S (a .d) h (a .d .rule .first) (p .last .1 .0) (c .run .last .1 .0) (p .result) (p .ensures .0) (p .ensures .1) (c .run .ensures .1)
 
-  again-now : Reduces (c .before .before .before .before .before .before .before .before .before .args .nodes .now) (c .run .last .1 .0) i x S (c .before .before .before .before .before .before .before .before .before .args .d)
+  again-now : Reduces (c .before .before .before .before .before .before .before .before .before .before .args .nodes .now) (c .run .last .1 .0) i x S (c .before .before .before .before .before .before .before .before .before .before .args .d)
   again-now =
-      let a = c .before .before .before .before .before .before .before .before .before .args in
+      let a = c .before .before .before .before .before .before .before .before .before .before .args in
       reduces-kept (a .nodes .now) (a .queue .now) (c .run .last .1 .0) i x S (a .d) h kept-now (c .run .kept .1 .0 ∙ c .before .before .before .before .premise .kept .1 .0)
 
-module _ (t : ℕ) (c : Again t) (i : ℕ) (x : Compound) (S : Sequent) (h : Reduces (c .before .before .before .before .before .before .before .before .before .before .before .before .before .before .before .before .before .before .before .before .before .args .nodes .now) (c .before .before .before .before .before .before .before .before .before .before .before .before .before .before .before .before .before .before .before .before .before .args .queue .now) i x S (c .before .before .before .before .before .before .before .before .before .before .before .before .before .before .before .before .before .before .before .before .before .args .d)) where
-  second-runs-now : Runs (c .before .before .before .before .before .before .before .before .before .before .before .before .before .before .before .before .before .before .before .before .before .args .nodes .now) (c .before .before .before .before .premise2 .last .1 .0) (c .before .before .before .before .premise2 .result) (premiseBy (c .before .before .before .before .before .before .before .before .before .before .before .before .before .before .before .before .before .before .before .before .before .args .d .side) i x S (c .before .before .before .before .before .before .before .before .before .before .before .before .before .before .before .before .before .before .before .before .before .args .d .rule .second))
+module _ (t : ℕ) (c : Again t) (i : ℕ) (x : Compound) (S : Sequent) (h : Reduces (c .before .before .before .before .before .before .before .before .before .before .before .before .before .before .before .before .before .before .before .before .before .before .args .nodes .now) (c .before .before .before .before .before .before .before .before .before .before .before .before .before .before .before .before .before .before .before .before .before .before .args .queue .now) i x S (c .before .before .before .before .before .before .before .before .before .before .before .before .before .before .before .before .before .before .before .before .before .before .args .d)) where
+  second-runs-now : Runs (c .before .before .before .before .before .before .before .before .before .before .before .before .before .before .before .before .before .before .before .before .before .before .args .nodes .now) (c .before .before .before .before .premise2 .last .1 .0) (c .before .before .before .before .premise2 .result) (premiseBy (c .before .before .before .before .before .before .before .before .before .before .before .before .before .before .before .before .before .before .before .before .before .before .args .d .side) i x S (c .before .before .before .before .before .before .before .before .before .before .before .before .before .before .before .before .before .before .before .before .before .before .args .d .rule .second))
   second-runs-now =
-      let a = c .before .before .before .before .before .before .before .before .before .before .before .before .before .before .before .before .before .before .before .before .before .args in
+      let a = c .before .before .before .before .before .before .before .before .before .before .before .before .before .before .before .before .before .before .before .before .before .before .args in
       let p = c .before .before .before .before .premise2 in
       second-runs (a .nodes .now) (c .before .before .before .before .before .before .before .before .before .before .before .before .run .last .1 .0) i x S (a .d) (again-now t (c .before .before .before .before .before .before .before .before .before .before .before .before) i x S h) (c .before .before .before .before .before .before .before .before .if1 .left) (p .last .1 .0) (p .result) (p .ensures .0) (p .ensures .1) (p .kept .1 .0)
 
-  second-now : c .run2 .result ≡ outcome (c .before .before .before .before .before .before .before .before .before .before .before .before .run .result .unspent) (premiseBy (c .before .before .before .before .before .before .before .before .before .before .before .before .before .before .before .before .before .before .before .before .before .args .d .side) i x S (c .before .before .before .before .before .before .before .before .before .before .before .before .before .before .before .before .before .before .before .before .before .args .d .rule .second))
-  second-now = c .run2 .ensures .0 (premiseBy (c .before .before .before .before .before .before .before .before .before .before .before .before .before .before .before .before .before .before .before .before .before .args .d .side) i x S (c .before .before .before .before .before .before .before .before .before .before .before .before .before .before .before .before .before .before .before .before .before .args .d .rule .second)) second-runs-now
+  second-now : outcomeOf (c .run2 .result) ≡ outcome (c .before .before .before .before .before .before .before .before .before .before .before .before .run .result .unspent) (premiseBy (c .before .before .before .before .before .before .before .before .before .before .before .before .before .before .before .before .before .before .before .before .before .before .args .d .side) i x S (c .before .before .before .before .before .before .before .before .before .before .before .before .before .before .before .before .before .before .before .before .before .before .args .d .rule .second))
+  second-now = c .run2 .ensures .0 (premiseBy (c .before .before .before .before .before .before .before .before .before .before .before .before .before .before .before .before .before .before .before .before .before .before .args .d .side) i x S (c .before .before .before .before .before .before .before .before .before .before .before .before .before .before .before .before .before .before .before .before .before .before .args .d .rule .second)) second-runs-now
 
-  kept-again : take (c .before .before .before .before .before .before .before .before .before .before .before .before .before .before .before .before .before .before .before .before .before .args .d .rest .to) (c .run2 .last .1 .0) ≡ take (c .before .before .before .before .before .before .before .before .before .before .before .before .before .before .before .before .before .before .before .before .before .args .d .rest .to) (c .before .before .before .before .before .before .before .before .before .before .before .before .before .before .before .before .before .before .before .before .before .args .queue .now)
+  kept-again : take (c .before .before .before .before .before .before .before .before .before .before .before .before .before .before .before .before .before .before .before .before .before .before .args .d .rest .to) (c .run2 .last .1 .0) ≡ take (c .before .before .before .before .before .before .before .before .before .before .before .before .before .before .before .before .before .before .before .before .before .before .args .d .rest .to) (c .before .before .before .before .before .before .before .before .before .before .before .before .before .before .before .before .before .before .before .before .before .before .args .queue .now)
   kept-again =
-      let a = c .before .before .before .before .before .before .before .before .before .before .before .before .before .before .before .before .before .before .before .before .before .args in
+      let a = c .before .before .before .before .before .before .before .before .before .before .before .before .before .before .before .before .before .before .before .before .before .before .args in
       let p = c .before .before .before .before .premise2 in
       premise-kept (a .nodes .now) (c .before .before .before .before .before .before .before .before .before .before .before .before .run .last .1 .0) i x S (a .d) (again-now t (c .before .before .before .before .before .before .before .before .before .before .before .before) i x S h) (a .d .rule .second) (p .last .1 .0) (c .run2 .last .1 .0) (p .result) (p .ensures .0) (p .ensures .1) (c .run2 .ensures .1)
       ∙ kept-now t (c .before .before .before .before .before .before .before .before .before .before .before .before) i x S h
 
   sum-fits : c .before .before .before .before .before .before .before .before .before .before .before .before .run .result .closings + c .run2 .result .closings < 2 ^ 64
   sum-fits =
-      let a = c .before .before .before .before .before .before .before .before .before .before .before .before .before .before .before .before .before .before .before .before .before .args in
+      let a = c .before .before .before .before .before .before .before .before .before .before .before .before .before .before .before .before .before .before .before .before .before .before .args in
       let r = runs-now t (c .before .before .before .before .before .before .before .before .before .before .before .before) i x S h in
       let w = second-runs-now in
       let o = ap (λ (v : Outcome). v .closings) (first-now t (c .before .before .before .before .before .before .before .before .before .before .before .before) i x S h) in
@@ -126,6 +119,8 @@ pub +run+run-premises-spec : {M : Type 1} → statement M
     (λ c. search needs)
     (λ c. search needs)
     (λ c. search needs)
+    (λ c. search needs)
+    (λ c. search needs)
     (λ c.
     let s = c .before .before .before .before .before .before .before .before in
     let w = rw (c .before .before .answer2 .given .1) at (c .before .before .before .before .step .ensures (s .pre .1 .0) (s .pre .1 .1)) in
@@ -135,13 +130,21 @@ pub +run+run-premises-spec : {M : Type 1} → statement M
     let w = rw (c .before .before .answer2 .given .1) at (c .before .before .before .before .step .ensures (s .pre .1 .0) (s .pre .1 .1)) in
     (omega (arith, s .pre .0, w .4), (w .0, w .1, s .pre .1 .0, w .3)))
     (λ c. search needs)
-    (λ c. (λ S h. let w = rw (c .enum-told .given .1) at (c .before .before .step .ensures S h) in answered (c .before .before .before .before .before .before .args .left) S (isClosed (w .0)) (w .1), refl))
+    (λ c. (λ S h. let w = rw (c .enum-told .given .1) at (c .before .before .step .ensures S h) in answered (c .before .before .before .before .before .before .args .left) S (isClosed (w .0)) (w .1), refl, omega arith))
     (λ c. search needs)
-    (λ c. (λ S h. let w = rw (c .before .answer .given .1) at (c .before .before .before .step .ensures S h) in answered (c .before .before .before .before .before .before .before .args .left) S (isOpen (c .before .answer .given .0 .0)) w, refl))
+    (λ c.
+    let σ = c .before .answer .given .0 .0 in
+    let b = c .before .before .before .before .before .before .before .args .left in (
+      λ S h.
+          let w = rw (c .before .answer .given .1) at (c .before .before .before .step .ensures S h) in
+          (λ j. record { kind = refuted-ending σ j; unspent = b; closings = 0 }) ∙ answered b S (isOpen σ) w,
+      refl,
+      omega arith,
+    ))
     (λ c. search needs)
-    (λ c. (λ S h. let w = rw (c .enum-told2 .given .1) at (c .before .before .step .ensures S h) in answered (c .before .before .before .before .before .before .args .left) S isFull w, refl))
+    (λ c. (λ S h. let w = rw (c .enum-told2 .given .1) at (c .before .before .step .ensures S h) in answered (c .before .before .before .before .before .before .args .left) S isFull w, refl, omega arith))
     (λ c. search needs)
-    (λ c. (λ S h. let w = rw (c .enum-told3 .given .1) at (c .before .before .step .ensures S h) in answered (c .before .before .before .before .before .before .args .left) S isSpent w, refl))
+    (λ c. (λ S h. let w = rw (c .enum-told3 .given .1) at (c .before .before .step .ensures S h) in answered (c .before .before .before .before .before .before .args .left) S isSpent w, refl, omega arith))
     (λ c. search needs)
     (λ c.
     let s = c .before .before .before .before .before .before .before .before .before .before .before in
@@ -151,6 +154,7 @@ pub +run+run-premises-spec : {M : Type 1} → statement M
           let w = rw (c .before .before .before .before .before .answer2 .given .1) at (c .before .before .before .before .before .before .before .step .ensures S h) in
           r .ensures .0 (w .0) (w .1) S (w .3) ∙ answered (s .args .left) S (isDue (c .before .before .before .before .before .answer2 .given .0 .0 .side) (w .0) (w .1)) (w .2),
       rw (w₀ .5) at (r .ensures .1),
+      r .ensures .2,
     )))
     λ t. run-premises-lts.spec (
       premise-reads.Asked,
@@ -163,11 +167,11 @@ pub +run+run-premises-spec : {M : Type 1} → statement M
     (run-premises-at t)
     run-premises.Post
     (λ c κs.
-    let s = c .before .before .before .before in
+    let s = c .before .before .before .before .before in
     let h = s .pre .1 in
     first-asks (s .args .nodes .now) (s .args .queue .now) (h .0) (h .1) (h .2) (s .args .d) (h .3))
     (λ c κs.
-    let s = c .before .before .before .before .before .before .before .before in
+    let s = c .before .before .before .before .before .before .before .before .before in
     let a = s .args in
     let h = s .pre .1 in
     let p = c .before .before .before .premise in (
@@ -180,21 +184,32 @@ pub +run+run-premises-spec : {M : Type 1} → statement M
     (λ c. search needs)
     (λ c.
     let r = c .before .before .before .before in
-    let s = c .before .before .before .before .before .before .before .before .before .before .before .before .before in
+    let s = c .before .before .before .before .before .before .before .before .before .before .before .before .before .before in
     let a = s .args in
     let h = s .pre .1 in (
-      λ i x S h. pass-one (a .nodes .now) (a .queue .now) i x S (a .d) h (a .left) (r .run .result) (first-now t r i x S h) (c .if1 .taken),
+      λ i x S h. pass-one (a .nodes .now) (a .queue .now) i x S (a .d) h (a .left) (outcomeOf (r .run .result)) (first-now t r i x S h) (c .if1 .taken),
       kept-now t r (h .0) (h .1) (h .2) (h .3),
+      r .run .ensures .2,
     ))
     (λ c. search needs)
+    (λ c.
+    let r = c .before .before .before .before .before .before in
+    let s = c .before .before .before .before .before .before .before .before .before .before .before .before .before .before .before .before in
+    let a = s .args in
+    let h = s .pre .1 in (
+      λ i x S h.
+          pass-stop (a .nodes .now) (a .queue .now) i x S (a .d) h (a .left) (outcomeOf (r .run .result)) (first-now t r i x S h) (c .before .before .if1 .left) (other-ending (r .run .result .ending) (c .if2 .taken)),
+      kept-now t r (h .0) (h .1) (h .2) (h .3),
+      r .run .ensures .2,
+    ))
     (λ c κs.
     let r = c .before .before .before .before .before .before .before in
-    let s = c .before .before .before .before .before .before .before .before .before .before .before .before .before .before .before .before in
+    let s = c .before .before .before .before .before .before .before .before .before .before .before .before .before .before .before .before .before in
     let h = s .pre .1 in
     second-asks (s .args .nodes .now) (r .run .last .1 .0) (h .0) (h .1) (h .2) (s .args .d) (again-now t r (h .0) (h .1) (h .2) (h .3)) (c .before .before .before .if1 .left))
     (λ c κs.
     let r = c .before .before .before .before .before .before .before .before .before .before .before in
-    let s = c .before .before .before .before .before .before .before .before .before .before .before .before .before .before .before .before .before .before .before .before in
+    let s = c .before .before .before .before .before .before .before .before .before .before .before .before .before .before .before .before .before .before .before .before .before in
     let a = s .args in
     let h = s .pre .1 in
     let p = c .before .before .before .premise2 in (
@@ -204,28 +219,19 @@ pub +run+run-premises-spec : {M : Type 1} → statement M
         second-runs (a .nodes .now) (r .run .last .1 .0) (h .0) (h .1) (h .2) (a .d) (again-now t r (h .0) (h .1) (h .2) (h .3)) (c .before .before .before .before .before .before .before .if1 .left) (p .last .1 .0) (p .result) (p .ensures .0) (p .ensures .1) (p .kept .1 .0),
       ),
     ))
-    (λ c κs. let h = c .before .before .before .before .before .before .before .before .before .before .before .before .before .before .before .before .before .before .before .before .before .before .before .pre .1 in sum-fits t (c .before .before) (h .0) (h .1) (h .2) (h .3))
+    (λ c κs. let h = c .before .before .before .before .before .before .before .before .before .before .before .before .before .before .before .before .before .before .before .before .before .before .before .before .pre .1 in sum-fits t (c .before .before) (h .0) (h .1) (h .2) (h .3))
     (λ c.
     let r = c .before .before .before .before .before .before .before .before .before .before .before .before .before .before .before in
     c .before .before .before .run2 .kept .1 .0 ∙ c .before .before .before .before .before .before .before .premise2 .kept .1 .0 ∙ r .run .kept .1 .0 ∙ r .before .before .before .before .premise .kept .1 .0)
     (λ c.
     let w = c .before .before .before in
     let r = c .before .before .before .before .before .before .before .before .before .before .before .before .before .before .before in
-    let s = c .before .before .before .before .before .before .before .before .before .before .before .before .before .before .before .before .before .before .before .before .before .before .before .before in
+    let s = c .before .before .before .before .before .before .before .before .before .before .before .before .before .before .before .before .before .before .before .before .before .before .before .before .before in
     let a = s .args in
     let h = s .pre .1 in
     let j = c .joined .ensures in (
       λ i x S h.
-          pass-two (a .nodes .now) (a .queue .now) i x S (a .d) h (a .left) (r .run .result) (first-now t r i x S h) (c .before .before .before .before .before .before .before .before .before .before .before .if1 .left) (c .before .before .before .before .before .before .before .before .before .enum-told .given .1) (w .run2 .result) (c .joined .result) (second-now t w i x S h) (j .0) (j .1) (j .2),
+          pass-two (a .nodes .now) (a .queue .now) i x S (a .d) h (a .left) (outcomeOf (r .run .result)) (first-now t r i x S h) (c .before .before .before .before .before .before .before .before .before .before .before .if1 .left) (theorem-ending (r .run .result .ending) (c .before .before .before .before .before .before .before .before .before .if2 .left)) (outcomeOf (w .run2 .result)) (outcomeOf (c .joined .result)) (second-now t w i x S h) (ap kindOf (j .0)) (j .1) (j .2),
       kept-again t w (h .0) (h .1) (h .2) (h .3),
-    ))
-    (λ c. search needs)
-    (λ c.
-    let r = c .before .before .before .before .before in
-    let s = c .before .before .before .before .before .before .before .before .before .before .before .before .before .before in
-    let a = s .args in
-    let h = s .pre .1 in (
-      λ i x S h.
-          pass-stop (a .nodes .now) (a .queue .now) i x S (a .d) h (a .left) (r .run .result) (first-now t r i x S h) (c .before .if1 .left) (λ e. miss (1 ∷ 2 ∷ 3 ∷ []) 0 tt (rw e at (c .match .keys2))),
-      kept-now t r (h .0) (h .1) (h .2) (h .3),
+      rw (j .0) (w .run2 .ensures .2),
     ))

@@ -14,6 +14,6 @@ lamp-spec =
     (λ c. search needs)
     (λ c.
     let d = c .before .before .args .name in
-    rw (c .before .if1 .taken, lt-ltb d LETTERS (c .if2 .taken)) (shifted 32 d (omega arith)))
+    rw (c .before .if1 .taken, lt-ltb d LETTERS (c .if2 .taken)) (shifted 64 d (omega arith)))
     (λ c. rw (c .before .if1 .taken, le-ltb (c .before .before .args .name) LETTERS (c .if2 .left)))
     (λ c. search needs))

@@ -17,8 +17,10 @@ push-spec =
     (λ c.
     let s = c .before .before in
     pushed-compound (s .args .queue .now) (s .args .to) (s .args .name) (s .args .wanted) (c .before .if1 .taken) (c .if2 .taken) (s .pre))
+    (λ c. search needs)
     (λ c.
     let a = c .before .before .args in
     let e : waiting (a .wanted) (a .name) ≡ [] = rw (c .before .if1 .taken) (waiting-letter (a .name) (c .if2 .left)) in
     pushed-nothing (a .queue .now) (a .to) (a .name) (a .wanted) e)
+    (λ c. search needs)
     (λ c. let a = c .before .args in pushed-nothing (a .queue .now) (a .to) (a .name) (a .wanted) (rw (c .if1 .left))))

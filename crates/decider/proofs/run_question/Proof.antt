@@ -1,5 +1,5 @@
 -- `decider::run_question` meets its contract: the sets of the whole question are run. Assumes nothing.
-use mathlib.Core.Path.{_≡_, refl}
+use mathlib.Core.Path.{_≡_, refl, _∙_}
 use native.Mathlib.Omega.{arith}
 use borrow.Author.Needs.{needs}
 use Rattle.calculus.specs.declared.Side.the-variants.{Right}
@@ -34,4 +34,7 @@ run-question-spec =
     (λ c. search needs)
     (λ c. search needs)
     (λ c κs. (question (c .before .before .before .before .before .before .before .before .before .before .before .before .before .before .before .before .args .q .now), whole-now (c .before .before .before .before .before)))
-    (λ c. c .before .run .ensures .0 (question (c .before .before .before .before .before .before .before .before .before .before .before .before .before .before .before .before .before .before .args .q .now)) (whole-now (c .before .before .before .before .before .before .before))))
+    (λ c κs. search needs)
+    (λ c.
+    let r = c .before .before .run in
+    (λ j. record { kind = c .kind .ensures j; unspent = r .result .unspent; closings = r .result .closings }) ∙ r .ensures .0 (question (c .before .before .before .before .before .before .before .before .before .before .before .before .before .before .before .before .before .before .before .args .q .now)) (whole-now (c .before .before .before .before .before .before .before .before))))

@@ -41,11 +41,14 @@ step-spec =
     let d = c .before .due .given .0 in
     reduction-asks (a .nodes .now) (a .queue .now) (a .self) (s .pre .0) (s .pre .1) (a .left) (c .before .before .before .before .if1 .left) (d .0) (d .1 .0) (d .1 .1 .0) (found-at c (s .pre .0) (s .pre .1)))
     (λ c. search needs)
+    (λ c.
+    let s = c .before .before .before .before .before .before .before .before in
+    omega (arith, s .pre .1 .shows .lit))
     (λ c S h.
     let a = c .before .before .before .before .before .before .before .before .before .args in
     let d = c .before .before .due .given .0 in
     took (a .nodes .now) (a .queue .now) (a .self) S h (a .left) (c .before .before .before .before .before .if1 .left) (d .1 .0) (d .1 .1 .0) (d .0) (found-at (c .before) S h) (c .reduction .result) (c .reduction .ensures))
     (λ c S h.
-    let a = c .before .before .before .before .before .before .before .args in
-    let f = rw (c .enum-told .given .1) at (found-now (c .before .before) S h) in
-    took-open (a .nodes .now) (a .queue .now) (a .self) S h (a .left) (c .before .before .before .if1 .left) (f .0) (f .1)))
+    let a = c .before .before .before .before .before .before .before .before .args in
+    let f = rw (c .before .enum-told .given .1) at (found-now (c .before .before .before) S h) in
+    took-open (a .nodes .now) (a .queue .now) (a .self) S h (a .left) (c .before .before .before .before .if1 .left) (f .0) (f .1)))
