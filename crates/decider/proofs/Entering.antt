@@ -1,14 +1,14 @@
 -- The formulas of a question come to the sets one after the other.
 -- Assumes nothing.
-use mathlib.Core.Path.{_≡_, refl, sym, ap, _∙_, subst}
-use mathlib.Core.Bool.{true, false}
+use mathlib.Core.Path.{_≡_, refl, sym, ap, _∙_}
+use mathlib.Core.Bool.{true}
 use mathlib.Core.List.{List, [], _∷_, _++_, append-assoc, append-nil}
-use Prim.Native.Nat.{ℕ, zero, suc, _+_, _-_, _*_, _^_, _≤_, _<_}
+use Prim.Native.Nat.{ℕ, zero, suc, _+_, _-_, _≤_, _<_}
 use native.Mathlib.Nat.{add-zero, le-refl}
 use native.Mathlib.Numerals.{add-one}
 use native.Mathlib.Omega.{arith}
 use lib.Bits.{bitOr, or-zero-r, or-lt}
-use lib.ListN.{length, take, drop, getD, length-append, length-take, length-drop}
+use lib.ListN.{length, take, drop, getD, length-append, length-take}
 use lib.Pow.{pow-mono}
 use lib.Seq.{drop-append-le, take-length}
 use Rattle.calculus.specs.declared.Side.{Side}
@@ -21,7 +21,7 @@ use Rattle.calculus.specs.Reading.{accepted, reading}
 use Rattle.calculus.specs.Tree.{letters, state}
 use Rattle.calculus.proofs.Folds.{fold-append}
 use Rattle.calculus.proofs.Readings.{accepted-question}
-use Rattle.question.specs.Positions.{Well, firstOf, formulaAt, endOf}
+use Rattle.question.specs.Positions.{firstOf, formulaAt, endOf}
 use Rattle.question.proofs.Questions.{place-formulas, place-well}
 use Rattle.sequent.specs.declared.Placing.{Placing}
 use Rattle.sequent.specs.Rule.{sideCode}
@@ -29,8 +29,8 @@ use Rattle.sequent.proofs.Masks.{state-fold}
 use Rattle.sequent.proofs.Premises.{ones}
 use Rattle.decider.specs.declared.Sets.{Sets}
 use Rattle.decider.specs.declared.Loaded.{Loaded}
-use Rattle.decider.specs.Names.{name, Told, bitOf, lampOf, waiting, Leads, Rising, Waits, Lined}
-use Rattle.decider.specs.States.{partBits, partsWaiting, appended, Takes, Shows, Runs}
+use Rattle.decider.specs.Names.{name, Told, bitOf, lampOf, waiting, Rising, Lined}
+use Rattle.decider.specs.States.{partsWaiting, appended, Takes, Runs}
 use Rattle.decider.specs.Loads.{WAITING, Loads, Enters, entered, upTo}
 use Rattle.decider.proofs.Numbers.{lamp-small, waiting-short}
 use Rattle.decider.proofs.Lines.{rising-order, rising-wider, rising-append, rising-bound, lined-append}

@@ -1,11 +1,11 @@
 -- A premise that the sets show, and the run over the premises.
 -- Assumes nothing.
-use mathlib.Core.Path.{_≡_, refl, sym, ap, _∙_, subst}
+use mathlib.Core.Path.{_≡_, refl, sym, ap, _∙_}
 use mathlib.Core.Bool.{Bool, true, false}
 use mathlib.Core.Option.{some}
-use mathlib.Core.List.{List, [], _∷_, _++_, map, append-assoc, append-nil}
-use Prim.Native.Nat.{ℕ, zero, suc, _+_, _-_, _*_, _^_, _≤_, _<_}
-use native.Mathlib.Nat.{add-zero, zero-add, le-refl, le-trans}
+use mathlib.Core.List.{List, [], _∷_, _++_, append-assoc, append-nil}
+use Prim.Native.Nat.{ℕ, zero, suc, _+_, _-_, _^_, _≤_, _<_}
+use native.Mathlib.Nat.{add-zero, le-refl}
 use native.Mathlib.Omega.{arith}
 use lib.Bits.{bitOr, or-lt}
 use lib.Dec.{eqb}
@@ -19,24 +19,23 @@ use Rattle.calculus.specs.declared.Kind.{Kind}
 use Rattle.calculus.specs.declared.Kind.the-variants.{Theorem, Refuted, Spent, Full}
 use Rattle.calculus.specs.declared.Outcome.{Outcome}
 use Rattle.calculus.specs.Fold.{choose}
-use Rattle.calculus.specs.Limits.{ROOM, LETTERS, CONNECTIVES}
+use Rattle.calculus.specs.Limits.{LETTERS, CONNECTIVES}
 use Rattle.calculus.specs.Syntax.{other, Formula, Compound, whole, Sequent, on-side, connectives, c, size}
 use Rattle.calculus.specs.Table.{splice, premises}
-use Rattle.calculus.specs.Tree.{letters, state, Step, closed, opened, full, reduced, step, isDue, afford, Event, close, reduce, closings, tree, spend, outcome, Inner, inner, andThen, pass, act}
+use Rattle.calculus.specs.Tree.{letters, state, Step, closed, opened, full, reduced, step, isDue, afford, Event, close, reduce, closings, tree, outcome, Inner, inner, andThen, pass, act}
 use Rattle.calculus.proofs.Folds.{fold-append}
 use Rattle.calculus.proofs.Sequents.{Smaller, smaller}
 use Rattle.calculus.proofs.Bounds.{closings-bound, W-bound}
 use Rattle.calculus.proofs.Budgets.{closingsBefore, spend-closings, outcome-step}
 use Rattle.sequent.specs.declared.Placing.{Placing}
-use Rattle.sequent.specs.declared.Rule.{Rule}
 use Rattle.sequent.specs.Rule.{sideCode, partsOn, premiseOf}
 use Rattle.sequent.specs.View.{bitOf as letterBit}
 use Rattle.sequent.proofs.Masks.{OR, state-fold, fold-splice}
 use Rattle.sequent.proofs.Premises.{bit-whole}
 use Rattle.decider.specs.declared.Sets.{Sets}
 use Rattle.decider.specs.declared.Reduction.{Reduction}
-use Rattle.decider.specs.Names.{lampOf, waiting, Rising, Lined}
-use Rattle.decider.specs.States.{kindOf, partBits, partLamps, partsWaiting, setOf, replaced, appended, Takes, Shows, Runs, Led, Lacks, firstName, secondName, Reduces}
+use Rattle.decider.specs.Names.{lampOf, waiting}
+use Rattle.decider.specs.States.{kindOf, partBits, partLamps, partsWaiting, setOf, replaced, appended, Takes, Shows, Runs, Lacks, firstName, secondName, Reduces}
 use Rattle.decider.proofs.Numbers.{lamp-small, waiting-short}
 use Rattle.decider.proofs.Lines.{rising-wider, rising-append, rising-empty, rising-bound, rising-splice, lined-append}
 use Rattle.decider.proofs.Naming.{Fair, node-told, parts-rising, parts-lined, parts-lamps}

@@ -5,11 +5,9 @@ use calculus::Side;
 use sequent::Placing;
 use sequent::Rule;
 ghost use mathlib.Core.Path.{_≡_};
-ghost use mathlib.Core.List.{[], _++_};
+ghost use mathlib.Core.List.{_++_};
 ghost use Prim.Native.Nat.{ℕ, _+_, _-_, _*_, _%_, _^_, _≤_, _<_};
-ghost use lib.Bits.{bitOr};
-ghost use lib.Dec.{eqb};
-ghost use lib.ListN.{length, take, drop, getD};
+ghost use lib.ListN.{length, take, getD};
 ghost use Rattle.calculus.specs.Limits.{LETTERS, CONNECTIVES, ROOM};
 ghost use Rattle.calculus.specs.Syntax.{Compound, Sequent, on-side, other, size, connectives};
 ghost use Rattle.calculus.specs.Bytes.{question, Lettered, sideStart, startOf};
@@ -18,9 +16,9 @@ ghost use Rattle.calculus.specs.Table.{premises};
 ghost use Rattle.calculus.specs.Tree.{outcome, pass};
 ghost use Rattle.question.specs.Positions.{Well, formulaAt, endOf};
 ghost use Rattle.sequent.specs.Rule.{sideCode, premiseOf};
-ghost use Rattle.decider.specs.Names.{name, node, Told, bitOf, lampOf, waiting};
+ghost use Rattle.decider.specs.Names.{name, node, bitOf, lampOf, waiting};
 ghost use Rattle.decider.specs.Loads.{named, Numbered, Loads, Enters, entered, upTo};
-ghost use Rattle.decider.specs.States.{kindOf, outcomeOf, partBits, partLamps, partsWaiting, setOf, replaced, appended, fetched, lowest, dueIn, placedOf, Takes, Reducing, Shows, Runs, Reduces, Took};
+ghost use Rattle.decider.specs.States.{kindOf, outcomeOf, partBits, partLamps, partsWaiting, setOf, replaced, appended, fetched, lowest, dueIn, placedOf, Takes, Reducing, Runs, Reduces, Took};
 
 // The connectives of a question are numbered in the order of its bytes, and a compound formula is named by its connective.
 // `left` and `first` are sets of such numbers: the left side, and what is left of the right formula under reduction. The

@@ -1,5 +1,4 @@
 -- `decider::Sets::push_parts` meets its contract. Assumes nothing.
-use mathlib.Core.Path.{_≡_, refl}
 use native.Mathlib.Omega.{arith}
 use lib.Dec.{eqb}
 use borrow.Author.Needs.{needs}

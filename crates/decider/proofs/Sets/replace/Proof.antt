@@ -1,6 +1,4 @@
 -- `decider::Sets::replace` meets its contract. Assumes nothing.
-use mathlib.Core.Path.{_≡_, refl}
-use Prim.Native.Nat.{_+_, _^_, _<_}
 use borrow.Author.Needs.{needs}
 use Rattle.decider.proofs.Sets.replace.Statement.{statement}
 use Rattle.decider.proofs.Sets.replace.Tie as tie
