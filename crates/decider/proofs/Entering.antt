@@ -1,14 +1,14 @@
 -- The formulas of a question come to the sets one after the other.
 -- Assumes nothing.
-use mathlib.Core.Path.{_≡_, refl, sym, ap, _∙_, subst}
-use mathlib.Core.Bool.{true, false}
+use mathlib.Core.Path.{_≡_, refl, sym, ap, _∙_}
+use mathlib.Core.Bool.{true}
 use mathlib.Core.List.{List, [], _∷_, _++_, append-assoc, append-nil}
-use Prim.Native.Nat.{ℕ, zero, suc, _+_, _-_, _*_, _^_, _≤_, _<_}
+use Prim.Native.Nat.{ℕ, zero, suc, _+_, _-_, _≤_, _<_}
 use native.Mathlib.Nat.{add-zero, le-refl}
 use native.Mathlib.Numerals.{add-one}
 use native.Mathlib.Omega.{arith}
 use lib.Bits.{bitOr, or-zero-r, or-lt}
-use lib.ListN.{length, take, drop, getD, length-append, length-take, length-drop}
+use lib.ListN.{length, take, drop, getD, length-append, length-take}
 use lib.Pow.{pow-mono}
 use lib.Seq.{drop-append-le, take-length}
 use Rattle.calculus.specs.declared.Side.{Side}
@@ -21,7 +21,7 @@ use Rattle.calculus.specs.Reading.{accepted, reading}
 use Rattle.calculus.specs.Tree.{letters, state}
 use Rattle.calculus.proofs.Folds.{fold-append}
 use Rattle.calculus.proofs.Readings.{accepted-question}
-use Rattle.question.specs.Positions.{Well, firstOf, formulaAt, endOf}
+use Rattle.question.specs.Positions.{firstOf, formulaAt, endOf}
 use Rattle.question.proofs.Questions.{place-formulas, place-well}
 use Rattle.sequent.specs.declared.Placing.{Placing}
 use Rattle.sequent.specs.Rule.{sideCode}
@@ -29,12 +29,12 @@ use Rattle.sequent.proofs.Masks.{state-fold}
 use Rattle.sequent.proofs.Premises.{ones}
 use Rattle.decider.specs.declared.Sets.{Sets}
 use Rattle.decider.specs.declared.Loaded.{Loaded}
-use Rattle.decider.specs.Names.{name, Told, bitOf, lampOf, waiting, Leads, Rising, Waits, Lined}
-use Rattle.decider.specs.States.{partBits, partsWaiting, appended, Takes, Shows, Runs}
+use Rattle.decider.specs.Names.{name, Told, bitOf, markOf, waiting, Rising, Lined}
+use Rattle.decider.specs.States.{partsWaiting, appended, Takes, Runs}
 use Rattle.decider.specs.Loads.{WAITING, Loads, Enters, entered, upTo}
-use Rattle.decider.proofs.Numbers.{lamp-small, waiting-short}
+use Rattle.decider.proofs.Numbers.{mark-small, waiting-short}
 use Rattle.decider.proofs.Lines.{rising-order, rising-wider, rising-append, rising-bound, lined-append}
-use Rattle.decider.proofs.Naming.{name-small, keep-rising, keep-lined, keep-lamp}
+use Rattle.decider.proofs.Naming.{name-small, keep-rising, keep-lined, keep-mark}
 use Rattle.decider.proofs.Passes.{mask-append}
 use Rattle.decider.proofs.Loading.{told-same}
 
@@ -103,8 +103,8 @@ grown s =
       connectives = s .connectives;
     }
 
-one-mask : (T : List ℕ) (n : ℕ) (x : Formula) → Told T n x → bitOr (lampOf true (name n x)) 0 ≡ state (letters (x ∷ []))
-one-mask T n x t = or-zero-r _ ∙ keep-lamp T n x t true ∙ sym (state-fold (x ∷ []))
+one-mask : (T : List ℕ) (n : ℕ) (x : Formula) → Told T n x → bitOr (markOf true (name n x)) 0 ≡ state (letters (x ∷ []))
+one-mask T n x t = or-zero-r _ ∙ keep-mark T n x t true ∙ sym (state-fold (x ∷ []))
 
 module _ (T Q R P : List ℕ) (l : Loaded) (S : Sequent) (h : Loads T Q l S) (x : Formula) (t : Told R (l .next) x) (k : (j : ℕ) → j < l .next → getD R j 0 ≡ getD T j 0)
     (r : length R ≡ length T) (p : length P ≡ length Q) (end : ℕ) where
@@ -134,9 +134,9 @@ module _ (T Q R P : List ℕ) (l : Loaded) (S : Sequent) (h : Loads T Q l S) (x 
           right = v .right;
           first = first-set;
           queue = rw o (lined-same T R (l .next) k (l .next + connectives x) (omega arith) (v .back) (drop (l .sets .from) (take (l .sets .to) Q)) (v .queue));
-          leftmask = mask-append (S .on-left) (x ∷ []) (l .sets .leftmask) (bitOr (lampOf true (name (l .next) x)) 0) (v .leftmask) (one-mask R (l .next) x t);
+          leftmask = mask-append (S .on-left) (x ∷ []) (l .sets .leftmask) (bitOr (markOf true (name (l .next) x)) 0) (v .leftmask) (one-mask R (l .next) x t);
           rightmask = v .rightmask;
-          lit = or-lt LETTERS (l .sets .leftmask) (bitOr (lampOf true (name (l .next) x)) 0) (v .lit) (rw (or-zero-r (lampOf true (name (l .next) x))) (lamp-small true (name (l .next) x)));
+          lit = or-lt LETTERS (l .sets .leftmask) (bitOr (markOf true (name (l .next) x)) 0) (v .lit) (rw (or-zero-r (markOf true (name (l .next) x))) (mark-small true (name (l .next) x)));
           size = omega (arith, v .size, fold-append SUM (λ (y : Formula). 1) (S .on-left) (x ∷ []));
           order = v .order;
         };
@@ -168,7 +168,7 @@ module _ (T Q R P : List ℕ) (l : Loaded) (S : Sequent) (h : Loads T Q l S) (x 
           queue = rw d (lined-append R (l .next + connectives x) (v .back) (x ∷ []) (drop (l .sets .from) (take (l .sets .to) Q)) W a b);
           leftmask = v .leftmask;
           lit = v .lit;
-          rightmask = mask-append (S .on-right) (x ∷ []) (l .sets .rightmask) (bitOr (lampOf true (name (l .next) x)) 0) (v .rightmask) (one-mask R (l .next) x t);
+          rightmask = mask-append (S .on-right) (x ∷ []) (l .sets .rightmask) (bitOr (markOf true (name (l .next) x)) 0) (v .rightmask) (one-mask R (l .next) x t);
           size = omega (arith, v .size, fold-append SUM (λ (y : Formula). 1) (S .on-right) (x ∷ []));
           order = omega (arith, v .order);
         };

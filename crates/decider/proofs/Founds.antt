@@ -1,10 +1,9 @@
 -- The first compound that the sets tell is the sequent's.
 -- Assumes nothing.
 use mathlib.Core.Path.{_≡_, refl, sym, ap, _∙_}
-use mathlib.Core.Bool.{Bool, true, false}
-use mathlib.Core.Option.{Option, none, some}
+use mathlib.Core.Option.{none, some}
 use mathlib.Core.List.{List, [], _∷_, _++_, append-assoc}
-use Prim.Native.Nat.{ℕ, suc, _+_, _-_, _*_, _^_, _≤_, _<_}
+use Prim.Native.Nat.{ℕ, suc, _+_, _-_, _^_, _≤_, _<_}
 use native.Mathlib.Decide.{decLt, decLe}
 use native.Mathlib.Nat.{le-refl, zero-add}
 use native.Mathlib.Numerals.{add-one}
@@ -16,15 +15,15 @@ use borrow.Author.Tests.{eq-eqb, ne-eqb, lt-ltb, le-ltb}
 use Rattle.calculus.specs.declared.Side.{Side}
 use Rattle.calculus.specs.declared.Side.the-variants.{Left, Right}
 use Rattle.calculus.specs.Limits.{LETTERS, CONNECTIVES}
-use Rattle.calculus.specs.Syntax.{Connective, NOT, two, Formula, Compound, compound, whole, Sequent, on-side, connectives}
+use Rattle.calculus.specs.Syntax.{Connective, NOT, two, Formula, Compound, compound, whole, Sequent, connectives}
 use Rattle.calculus.specs.Tree.{letters, state, First, missing, here, first, due, tests}
-use Rattle.calculus.proofs.Trees.{stands, Stands}
+use Rattle.calculus.proofs.Trees.{stands}
 use Rattle.decider.specs.declared.Sets.{Sets}
 use Rattle.decider.specs.declared.Due.{Due}
 use Rattle.decider.specs.declared.Due.the-variants.{At, Nothing}
 use Rattle.decider.specs.Names.{Rising, Lined}
-use Rattle.decider.specs.States.{Shows, Led, Lacks, lowest, fetched, without, dueRight, dueIn}
-use Rattle.decider.proofs.Lines.{rising-order, rising-append, rising-empty, rising-lowest, FirstIn, Firsts, rising-first, first-front, first-none, lined-none, Fetches, lined-fetch}
+use Rattle.decider.specs.States.{Shows, Lacks, lowest, fetched, dueRight, dueIn}
+use Rattle.decider.proofs.Lines.{rising-order, rising-append, rising-empty, rising-lowest, FirstIn, Firsts, rising-first, first-front, first-none, lined-none, lined-fetch}
 
 pub some-connective : (x : Compound) → 1 ≤ connectives (whole x)
 some-connective x = go (x .connective)

@@ -1,17 +1,16 @@
 -- Lists of formulas as sets of numbers and as lists of numbers, letters left out.
 -- Assumes nothing.
-use mathlib.Core.Path.{_≡_, refl, sym, ap, _∙_, subst}
-use mathlib.Core.List.{List, [], _∷_, _++_, append-assoc}
-use Prim.Native.Nat.{ℕ, zero, suc, _+_, _-_, _*_, _^_, _≤_, _<_}
-use native.Mathlib.Nat.{add-zero, le-refl, mul-assoc, mul-comm, add-mul, one-mul, zero-mul, pow-suc}
-use native.Mathlib.Numerals.{add-one}
+use mathlib.Core.Path.{_≡_, refl, sym, ap, _∙_}
+use mathlib.Core.List.{List, [], _∷_, _++_}
+use Prim.Native.Nat.{ℕ, suc, _+_, _-_, _*_, _^_, _≤_, _<_}
+use native.Mathlib.Nat.{add-zero, le-refl, mul-assoc, add-mul, zero-mul, pow-suc}
 use native.Mathlib.Omega.{arith}
-use lib.ListN.{length, take, drop, getD}
+use lib.ListN.{take, drop}
 use lib.Pow.{pow-add, pow-mono, pow-pos}
 use Rattle.calculus.specs.Limits.{LETTERS}
-use Rattle.calculus.specs.Syntax.{NOT, two, Formula, letter, neg, join, Compound, whole, connectives}
+use Rattle.calculus.specs.Syntax.{Formula, letter, neg, join, Compound, whole, connectives}
 use Rattle.calculus.specs.Tree.{First, missing, here, later, first}
-use Rattle.decider.specs.Names.{name, node, Told, Leads, Rising, Waits, Lined}
+use Rattle.decider.specs.Names.{Told, Rising, Lined}
 use Rattle.decider.specs.States.{lowest, Led}
 use Rattle.decider.proofs.Numbers.{lowest-bit}
 

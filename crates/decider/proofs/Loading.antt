@@ -1,21 +1,19 @@
 -- The nodes of a formula, and the formulas of a question, one after the other.
 -- Assumes nothing.
-use mathlib.Core.Path.{_≡_, refl, sym, ap, _∙_, subst}
-use mathlib.Core.List.{List, [], _∷_, _++_, append-assoc, append-nil}
-use Prim.Native.Nat.{ℕ, zero, suc, _+_, _-_, _*_, _^_, _≤_, _<_}
+use mathlib.Core.Path.{_≡_, refl, sym, ap, _∙_}
+use mathlib.Core.List.{List}
+use Prim.Native.Nat.{ℕ, _+_, _-_, _≤_, _<_}
 use native.Mathlib.Nat.{add-zero, le-refl}
 use native.Mathlib.Omega.{arith}
-use lib.ListN.{length, take, drop, getD, set, length-append, length-take, length-drop}
+use lib.ListN.{length, getD, set}
 use lib.Seq.{getD-set-same, getD-set-other}
-use Rattle.calculus.specs.declared.Side.{Side}
-use Rattle.calculus.specs.declared.Side.the-variants.{Left, Right}
-use Rattle.calculus.specs.Limits.{ROOM, LETTERS, CONNECTIVES}
-use Rattle.calculus.specs.Syntax.{Binary, Connective, NOT, two, Formula, letter, neg, join, Compound, compound, whole, Sequent, connectives, c, size}
-use Rattle.calculus.specs.Bytes.{CONNECTIVE, LETTER, code, Lettered}
+use Rattle.calculus.specs.Limits.{LETTERS, CONNECTIVES}
+use Rattle.calculus.specs.Syntax.{Binary, Connective, NOT, two, Formula, letter, neg, join, Compound, compound, connectives, c}
+use Rattle.calculus.specs.Bytes.{CONNECTIVE, code, Lettered}
 use Rattle.question.specs.Positions.{Well, formulaAt, endOf}
 use Rattle.question.proofs.Parts.{LetterAt, PartsAt, NotBehind, SecondAt, At, a-letter, a-compound, at-position, is-not, is-two, end-onward}
 use Rattle.decider.specs.declared.Named.{Named}
-use Rattle.decider.specs.Names.{name, node, Told, Rising, Lined}
+use Rattle.decider.specs.Names.{name, node, Told}
 use Rattle.decider.specs.Loads.{named, Numbered}
 
 -- ---- a compound at a position

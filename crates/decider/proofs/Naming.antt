@@ -1,30 +1,29 @@
 -- The parts of a compound by their names: as bits, as letters, and in the queue.
 -- Assumes nothing.
-use mathlib.Core.Path.{_≡_, refl, sym, ap, _∙_}
+use mathlib.Core.Path.{_≡_, refl, sym, _∙_}
 use mathlib.Core.Bool.{Bool, true, false}
 use mathlib.Core.List.{List, [], _∷_, _++_, append-nil}
-use Prim.Native.Nat.{ℕ, zero, suc, _+_, _-_, _*_, _/_, _%_, _^_, _≤_, _<_}
+use Prim.Native.Nat.{ℕ, _+_, _-_, _/_, _%_, _^_, _≤_, _<_}
 use native.Mathlib.Nat.{add-zero, le-refl}
 use native.Mathlib.Omega.{arith}
 use lib.Bits.{bitOr, or-zero-r}
-use lib.Dec.{eqb, ltb}
-use lib.ListN.{length, getD}
+use lib.Dec.{eqb}
+use lib.ListN.{getD}
 use borrow.Author.Tests.{lt-ltb, le-ltb}
 use Rattle.calculus.specs.declared.Side.{Side}
-use Rattle.calculus.specs.declared.Side.the-variants.{Left, Right}
+use Rattle.calculus.specs.declared.Side.the-variants.{Right}
 use Rattle.calculus.specs.Fold.{fold}
 use Rattle.calculus.specs.Limits.{LETTERS, CONNECTIVES}
-use Rattle.calculus.specs.Syntax.{Binary, Connective, NOT, two, Formula, letter, neg, join, Compound, compound, whole, connectives}
+use Rattle.calculus.specs.Syntax.{Connective, NOT, two, Formula, letter, neg, join, Compound, compound, whole, connectives}
 use Rattle.calculus.specs.Bytes.{CONNECTIVE, code}
 use Rattle.calculus.specs.Tree.{letters, state}
 use Rattle.calculus.proofs.Folds.{fold-append}
-use Rattle.question.proofs.Readers.{connective-range}
 use Rattle.sequent.specs.declared.Placing.{Placing}
 use Rattle.sequent.specs.Rule.{sideCode, keep, partsOn}
 use Rattle.sequent.specs.View.{bitOf as letterBit}
 use Rattle.sequent.proofs.Masks.{OR, state-fold}
-use Rattle.decider.specs.Names.{name, node, Told, bitOf, lampOf, waiting, Rising, Lined}
-use Rattle.decider.specs.States.{partBits, partLamps, partsWaiting, firstName, secondOf, secondName}
+use Rattle.decider.specs.Names.{name, node, Told, bitOf, markOf, waiting, Rising, Lined}
+use Rattle.decider.specs.States.{partBits, partMarks, partsWaiting, firstName, secondOf, secondName}
 use Rattle.decider.proofs.Lines.{rising-wider, rising-append, lined-append}
 
 -- ---- one name
@@ -35,8 +34,8 @@ compound-bit m = let e : LETTERS + m - LETTERS ≡ m = omega arith in rw (le-ltb
 compound-waits : (m : ℕ) → waiting true (LETTERS + m) ≡ (LETTERS + m) ∷ []
 compound-waits m = rw (le-ltb (LETTERS + m) LETTERS (omega arith))
 
-compound-lamp : (m : ℕ) → lampOf true (LETTERS + m) ≡ 0
-compound-lamp m = rw (le-ltb (LETTERS + m) LETTERS (omega arith))
+compound-mark : (m : ℕ) → markOf true (LETTERS + m) ≡ 0
+compound-mark m = rw (le-ltb (LETTERS + m) LETTERS (omega arith))
 
 pub name-small : (T : List ℕ) (m : ℕ) (x : Formula) → Told T m x → m + connectives x ≤ CONNECTIVES → name m x < LETTERS + CONNECTIVES
 name-small T m (letter k) t h = omega (arith, t)
@@ -56,11 +55,11 @@ module _ (T : List ℕ) (m e : ℕ) where
   keep-lined (neg x) t h true = rw (compound-waits m) (record { number = m; rest = []; told = t; inside = h; split = refl; behind = refl })
   keep-lined (join o x y) t h true = rw (compound-waits m) (record { number = m; rest = []; told = t; inside = h; split = refl; behind = refl })
 
-pub keep-lamp : (T : List ℕ) (m : ℕ) (x : Formula) → Told T m x → (a : Bool) → lampOf a (name m x) ≡ fold OR letterBit (keep a x)
-keep-lamp T m x t false = refl
-keep-lamp T m (letter k) t true = rw (lt-ltb k LETTERS t) (sym (or-zero-r (2 ^ k)))
-keep-lamp T m (neg x) t true = rw (compound-lamp m, or-zero-r)
-keep-lamp T m (join o x y) t true = rw (compound-lamp m, or-zero-r)
+pub keep-mark : (T : List ℕ) (m : ℕ) (x : Formula) → Told T m x → (a : Bool) → markOf a (name m x) ≡ fold OR letterBit (keep a x)
+keep-mark T m x t false = refl
+keep-mark T m (letter k) t true = rw (lt-ltb k LETTERS t) (sym (or-zero-r (2 ^ k)))
+keep-mark T m (neg x) t true = rw (compound-mark m, or-zero-r)
+keep-mark T m (join o x y) t true = rw (compound-mark m, or-zero-r)
 
 -- ---- the parts
 
@@ -115,12 +114,12 @@ module _ (T : List ℕ) (n : ℕ) (p : Placing) (f g : Formula) where
       lined-append T e (keep (eqb (p .f) 2) f) (keep (eqb (p .g) 2) g) (waiting (eqb (p .f) 2) (name (n + 1) f)) (waiting (eqb (p .g) 2) (name (n + 1 + connectives f) g))
       (keep-lined T (n + 1) e f (d .1) (omega arith) (eqb (p .f) 2)) (keep-lined T (n + 1 + connectives f) e g (d .2) (omega arith) (eqb (p .g) 2))
 
-  parts-lamps-by : (k : Connective) → Told T n (compound k f g) → Fair k p → (t : Side)
-      → bitOr (lampOf (eqb (p .f) (sideCode t)) (name (n + 1) f)) (lampOf (eqb (p .g) (sideCode t)) (secondOf n k f g)) ≡ state (letters (partsOn t p f g))
-  parts-lamps-by NOT d q t =
-      rw (q t, or-zero-r, append-nil (keep (eqb (p .f) (sideCode t)) f)) (keep-lamp T (n + 1) f (d .1) (eqb (p .f) (sideCode t)) ∙ sym (state-fold (keep (eqb (p .f) (sideCode t)) f)))
-  parts-lamps-by (two b) d q t =
-      rw (keep-lamp T (n + 1) f (d .1) (eqb (p .f) (sideCode t)), keep-lamp T (n + 1 + connectives f) g (d .2) (eqb (p .g) (sideCode t)))
+  parts-marks-by : (k : Connective) → Told T n (compound k f g) → Fair k p → (t : Side)
+      → bitOr (markOf (eqb (p .f) (sideCode t)) (name (n + 1) f)) (markOf (eqb (p .g) (sideCode t)) (secondOf n k f g)) ≡ state (letters (partsOn t p f g))
+  parts-marks-by NOT d q t =
+      rw (q t, or-zero-r, append-nil (keep (eqb (p .f) (sideCode t)) f)) (keep-mark T (n + 1) f (d .1) (eqb (p .f) (sideCode t)) ∙ sym (state-fold (keep (eqb (p .f) (sideCode t)) f)))
+  parts-marks-by (two b) d q t =
+      rw (keep-mark T (n + 1) f (d .1) (eqb (p .f) (sideCode t)), keep-mark T (n + 1 + connectives f) g (d .2) (eqb (p .g) (sideCode t)))
       (sym (state-fold (partsOn t p f g) ∙ fold-append OR letterBit (keep (eqb (p .f) (sideCode t)) f) (keep (eqb (p .g) (sideCode t)) g)))
 
 module _ (T : List ℕ) (n : ℕ) (x : Compound) (d : Told T n (whole x)) (p : Placing) (q : Fair (x .connective) p) where
@@ -130,5 +129,5 @@ module _ (T : List ℕ) (n : ℕ) (x : Compound) (d : Told T n (whole x)) (p : P
   pub parts-lined : (e : ℕ) → n + connectives (whole x) ≤ e → Lined T e (partsOn Right p (x .f) (x .g)) (partsWaiting Right p (firstName n x) (secondName n x))
   parts-lined e h = parts-lined-by T n p (x .f) (x .g) (x .connective) d q e h
 
-  pub parts-lamps : (t : Side) → partLamps t p (firstName n x) (secondName n x) ≡ state (letters (partsOn t p (x .f) (x .g)))
-  parts-lamps t = parts-lamps-by T n p (x .f) (x .g) (x .connective) d q t
+  pub parts-marks : (t : Side) → partMarks t p (firstName n x) (secondName n x) ≡ state (letters (partsOn t p (x .f) (x .g)))
+  parts-marks t = parts-marks-by T n p (x .f) (x .g) (x .connective) d q t

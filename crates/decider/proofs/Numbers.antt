@@ -14,7 +14,7 @@ use lib.Pow.{pow-lt, pow-mono}
 use lib.Seq.{take-suc-set}
 use borrow.Author.Tests.{le-ltb, lt-ltb, ltb-true}
 use Rattle.calculus.specs.Limits.{LETTERS, CONNECTIVES}
-use Rattle.decider.specs.Names.{bitOf, lampOf, waiting}
+use Rattle.decider.specs.Names.{bitOf, markOf, waiting}
 
 pub shifted : (w k : ℕ) → k < w → 1 * 2 ^ k % 2 ^ w ≡ 2 ^ k
 shifted w k h = rw (one-mul (2 ^ k)) (mod-eq-of-lt (pow-lt h))
@@ -27,9 +27,9 @@ bit-small true d h = go (ltb d LETTERS)
     go true = omega arith
     go false = pow-mono {j = CONNECTIVES} (omega arith)
 
-pub lamp-small : (b : Bool) (d : ℕ) → lampOf b d < 2 ^ LETTERS
-lamp-small false d = omega arith
-lamp-small true d = go (ltb d LETTERS) refl
+pub mark-small : (b : Bool) (d : ℕ) → markOf b d < 2 ^ LETTERS
+mark-small false d = omega arith
+mark-small true d = go (ltb d LETTERS) refl
   where
     go : (k : Bool) → ltb d LETTERS ≡ k → Rattle.calculus.specs.Fold.choose k (2 ^ d) 0 < 2 ^ LETTERS
     go true e = pow-lt (ltb-true d LETTERS e)

@@ -1,11 +1,11 @@
 -- A premise that the sets show, and the run over the premises.
 -- Assumes nothing.
-use mathlib.Core.Path.{_≡_, refl, sym, ap, _∙_, subst}
+use mathlib.Core.Path.{_≡_, refl, sym, ap, _∙_}
 use mathlib.Core.Bool.{Bool, true, false}
 use mathlib.Core.Option.{some}
-use mathlib.Core.List.{List, [], _∷_, _++_, map, append-assoc, append-nil}
-use Prim.Native.Nat.{ℕ, zero, suc, _+_, _-_, _*_, _^_, _≤_, _<_}
-use native.Mathlib.Nat.{add-zero, zero-add, le-refl, le-trans}
+use mathlib.Core.List.{List, [], _∷_, _++_, append-assoc, append-nil}
+use Prim.Native.Nat.{ℕ, zero, suc, _+_, _-_, _^_, _≤_, _<_}
+use native.Mathlib.Nat.{add-zero, le-refl}
 use native.Mathlib.Omega.{arith}
 use lib.Bits.{bitOr, or-lt}
 use lib.Dec.{eqb}
@@ -19,27 +19,26 @@ use Rattle.calculus.specs.declared.Kind.{Kind}
 use Rattle.calculus.specs.declared.Kind.the-variants.{Theorem, Refuted, Spent, Full}
 use Rattle.calculus.specs.declared.Outcome.{Outcome}
 use Rattle.calculus.specs.Fold.{choose}
-use Rattle.calculus.specs.Limits.{ROOM, LETTERS, CONNECTIVES}
+use Rattle.calculus.specs.Limits.{LETTERS, CONNECTIVES}
 use Rattle.calculus.specs.Syntax.{other, Formula, Compound, whole, Sequent, on-side, connectives, c, size}
 use Rattle.calculus.specs.Table.{splice, premises}
-use Rattle.calculus.specs.Tree.{letters, state, Step, closed, opened, full, reduced, step, isDue, afford, Event, close, reduce, closings, closingsBefore, tree, spend, outcome, Inner, inner, andThen, pass, act}
+use Rattle.calculus.specs.Tree.{letters, state, Step, closed, opened, full, reduced, step, isDue, afford, Event, close, reduce, closings, closingsBefore, tree, outcome, Inner, inner, andThen, pass, act}
 use Rattle.calculus.proofs.Folds.{fold-append}
 use Rattle.calculus.proofs.Sequents.{Smaller, smaller}
 use Rattle.calculus.proofs.Bounds.{closings-bound, W-bound}
 use Rattle.calculus.proofs.Budgets.{spend-closings, outcome-step}
 use Rattle.sequent.specs.declared.Placing.{Placing}
-use Rattle.sequent.specs.declared.Rule.{Rule}
 use Rattle.sequent.specs.Rule.{sideCode, partsOn, premiseOf}
 use Rattle.sequent.specs.View.{bitOf as letterBit}
 use Rattle.sequent.proofs.Masks.{OR, state-fold, fold-splice}
 use Rattle.sequent.proofs.Premises.{bit-whole}
 use Rattle.decider.specs.declared.Sets.{Sets}
 use Rattle.decider.specs.declared.Reduction.{Reduction}
-use Rattle.decider.specs.Names.{lampOf, waiting, Rising, Lined}
-use Rattle.decider.specs.States.{kindOf, partBits, partLamps, partsWaiting, setOf, replaced, appended, Takes, Shows, Runs, Led, Lacks, firstName, secondName, Reduces}
-use Rattle.decider.proofs.Numbers.{lamp-small, waiting-short}
+use Rattle.decider.specs.Names.{markOf, waiting}
+use Rattle.decider.specs.States.{kindOf, partBits, partMarks, partsWaiting, setOf, replaced, appended, Takes, Shows, Runs, Lacks, firstName, secondName, Reduces}
+use Rattle.decider.proofs.Numbers.{mark-small, waiting-short}
 use Rattle.decider.proofs.Lines.{rising-wider, rising-append, rising-empty, rising-bound, rising-splice, lined-append}
-use Rattle.decider.proofs.Naming.{Fair, node-told, parts-rising, parts-lined, parts-lamps}
+use Rattle.decider.proofs.Naming.{Fair, node-told, parts-rising, parts-lined, parts-marks}
 use Rattle.decider.proofs.Rows.{premiseBy, RuleFor, rule-for, premises-by, premise-size}
 use Rattle.decider.proofs.Tests.{element-inside}
 
@@ -53,9 +52,9 @@ mask-splice : (xs new : List Formula) (i : ℕ) (x : Compound) (m k : ℕ) → g
 mask-splice xs new i x m k d e f =
     rw (e, f, state-fold xs, state-fold new) (sym (state-fold (splice i new xs) ∙ fold-splice OR letterBit xs i (whole x) new d (bit-whole x)))
 
-lamps-small : (t : Side) (p : Placing) (f g : ℕ) → partLamps t p f g < 2 ^ LETTERS
-lamps-small t p f g =
-    or-lt LETTERS (lampOf (eqb (p .f) (sideCode t)) f) (lampOf (eqb (p .g) (sideCode t)) g) (lamp-small (eqb (p .f) (sideCode t)) f) (lamp-small (eqb (p .g) (sideCode t)) g)
+marks-small : (t : Side) (p : Placing) (f g : ℕ) → partMarks t p f g < 2 ^ LETTERS
+marks-small t p f g =
+    or-lt LETTERS (markOf (eqb (p .f) (sideCode t)) f) (markOf (eqb (p .g) (sideCode t)) g) (mark-small (eqb (p .f) (sideCode t)) f) (mark-small (eqb (p .g) (sideCode t)) g)
 
 -- ---- lists
 
@@ -107,9 +106,9 @@ module _ (T Q : List ℕ) (n i : ℕ) (x : Compound) (s : Sets) (S : Sequent) (p
         right = ap (λ (r : List Formula). r ++ ms) (l .right) ∙ append-assoc (l .front) (l .back) ms;
         first = l .first;
         queue = rw d (lined-append T CONNECTIVES (l .back) ms (drop (s .from) (take (s .to) Q)) (partsWaiting Right p (firstName n x) (secondName n x)) (l .queue) (parts-lined T n x (h .told) p q CONNECTIVES (h .inside)));
-        leftmask = mask-splice (S .on-left) ks i x (s .leftmask) (partLamps Left p (firstName n x) (secondName n x)) (h .due) (h .leftmask) (parts-lamps T n x (h .told) p q Left);
-        lit = or-lt LETTERS (s .leftmask) (partLamps Left p (firstName n x) (secondName n x)) (h .lit) (lamps-small Left p (firstName n x) (secondName n x));
-        rightmask = mask-append (S .on-right) ms (s .rightmask) (partLamps Right p (firstName n x) (secondName n x)) (h .rightmask) (parts-lamps T n x (h .told) p q Right);
+        leftmask = mask-splice (S .on-left) ks i x (s .leftmask) (partMarks Left p (firstName n x) (secondName n x)) (h .due) (h .leftmask) (parts-marks T n x (h .told) p q Left);
+        lit = or-lt LETTERS (s .leftmask) (partMarks Left p (firstName n x) (secondName n x)) (h .lit) (marks-small Left p (firstName n x) (secondName n x));
+        rightmask = mask-append (S .on-right) ms (s .rightmask) (partMarks Right p (firstName n x) (secondName n x)) (h .rightmask) (parts-marks T n x (h .told) p q Right);
         size = z;
         order = omega (arith, h .order);
       }
@@ -129,9 +128,9 @@ module _ (T Q : List ℕ) (n i : ℕ) (x : Compound) (s : Sets) (S : Sequent) (p
         right = ap (splice i ks) (l .right) ∙ splice-front i ks (l .front) (l .back) (l .led .inside);
         first = rising-splice T n CONNECTIVES x i (l .front) ks (s .first) (partBits Right p (firstName n x) (secondName n x)) (l .led) (parts-rising T n x (h .told) p q Right);
         queue = rw e (l .queue);
-        leftmask = mask-append (S .on-left) ms (s .leftmask) (partLamps Left p (firstName n x) (secondName n x)) (h .leftmask) (parts-lamps T n x (h .told) p q Left);
-        lit = or-lt LETTERS (s .leftmask) (partLamps Left p (firstName n x) (secondName n x)) (h .lit) (lamps-small Left p (firstName n x) (secondName n x));
-        rightmask = mask-splice (S .on-right) ks i x (s .rightmask) (partLamps Right p (firstName n x) (secondName n x)) (h .due) (h .rightmask) (parts-lamps T n x (h .told) p q Right);
+        leftmask = mask-append (S .on-left) ms (s .leftmask) (partMarks Left p (firstName n x) (secondName n x)) (h .leftmask) (parts-marks T n x (h .told) p q Left);
+        lit = or-lt LETTERS (s .leftmask) (partMarks Left p (firstName n x) (secondName n x)) (h .lit) (marks-small Left p (firstName n x) (secondName n x));
+        rightmask = mask-splice (S .on-right) ks i x (s .rightmask) (partMarks Right p (firstName n x) (secondName n x)) (h .due) (h .rightmask) (parts-marks T n x (h .told) p q Right);
         size = z;
         order = h .order;
       }

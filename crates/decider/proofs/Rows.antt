@@ -2,20 +2,17 @@
 -- Assumes nothing.
 use mathlib.Core.Path.{_≡_, refl, sym, ap, _∙_}
 use mathlib.Core.Bool.{Bool, true, false}
-use mathlib.Core.Option.{some}
-use mathlib.Core.List.{List, [], _∷_, _++_, map, map-append}
-use Prim.Native.Nat.{ℕ, suc, _+_, _-_, _≤_, _<_}
+use mathlib.Core.List.{List, [], _∷_, _++_, map}
+use Prim.Native.Nat.{ℕ, suc, _+_, _-_, _<_}
 use native.Mathlib.Omega.{arith}
-use lib.Dec.{eqb, ltb}
-use lib.ListN.{length, take, drop, getElem?, length-append, length-take, length-drop}
+use lib.Dec.{eqb}
+use lib.ListN.{length, take, drop, length-append, length-take, length-drop}
 use borrow.Author.Tests.{eqb-true}
 use Rattle.calculus.specs.declared.Side.{Side}
 use Rattle.calculus.specs.declared.Side.the-variants.{Left, Right}
 use Rattle.calculus.specs.Fold.{fold, ANY, SUM, Each, choose}
-use Rattle.calculus.specs.Limits.{ROOM}
-use Rattle.calculus.specs.Syntax.{AND, OR, IMPLIES, EQUIV, Connective, NOT, two, Formula, Compound, whole, Seq, Sequent, on-side, size}
-use Rattle.calculus.specs.Table.{Part, F, G, Put, L, R, table, fill, on, splice, premise, reduct, premises}
-use Rattle.calculus.proofs.Sequents.{Due, Smaller, smaller}
+use Rattle.calculus.specs.Syntax.{AND, OR, IMPLIES, EQUIV, Connective, NOT, two, Formula, Compound, Seq, Sequent, on-side, size}
+use Rattle.calculus.specs.Table.{Part, F, G, Put, L, R, table, fill, on, splice, premise, premises}
 use Rattle.sequent.specs.declared.Placing.{Placing}
 use Rattle.sequent.specs.declared.Rule.{Rule}
 use Rattle.sequent.specs.Rule.{sideCode, keep, partsOn, premiseOf, premisesOf, sided}

@@ -1,6 +1,6 @@
 -- The running sequent as sets, method by method.
 -- Assumes nothing.
-use mathlib.Core.Path.{_≡_, refl, sym, ap, _∙_}
+use mathlib.Core.Path.{_≡_, refl, ap, _∙_}
 use mathlib.Core.List.{List}
 use Prim.Native.Nat.{ℕ, _-_, _^_}
 use borrow.Author.Tests.{eq-eqb, ne-eqb}
@@ -9,9 +9,8 @@ use Rattle.calculus.specs.declared.Side.the-variants.{Left, Right}
 use Rattle.calculus.specs.Syntax.{other}
 use Rattle.sequent.specs.declared.Placing.{Placing}
 use Rattle.decider.specs.declared.Sets.{Sets}
-use Rattle.decider.specs.declared.Due.{Due}
 use Rattle.decider.specs.declared.Due.the-variants.{At, Nothing}
-use Rattle.decider.specs.States.{Takes, replaced, lowest, fetched, without, dueRight, dueIn}
+use Rattle.decider.specs.States.{Takes, replaced, lowest, fetched, dueRight, dueIn}
 
 -- the right side, where the left has no connective
 module _ (Q : List ℕ) (s r : Sets) (e : s .left ≡ 0) (f : r ≡ fetched Q s) where

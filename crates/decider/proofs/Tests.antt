@@ -1,25 +1,24 @@
 -- The inner step: what the code's tests say of the sequent.
 -- Assumes nothing.
 use mathlib.Core.Path.{_≡_, refl, sym, ap, _∙_, subst}
-use mathlib.Core.Bool.{Bool, true, false, _||_}
-use mathlib.Core.Option.{Option, none, some, Option·none-ne-some}
+use mathlib.Core.Bool.{Bool, true, false}
+use mathlib.Core.Option.{none, some, Option·none-ne-some}
 use mathlib.Core.List.{List, [], _∷_, map}
-use Prim.Native.Nat.{ℕ, zero, suc, _+_, _-_, _*_, _/_, _%_, _≤_, _<_}
+use Prim.Native.Nat.{ℕ, zero, suc, _+_, _-_, _/_, _%_, _≤_, _<_}
 use native.Mathlib.Omega.{arith}
 use lib.Bits.{bitAnd}
 use lib.Dec.{eqb, ltb}
 use lib.ListN.{length, getD, getElem?}
-use borrow.Author.Tests.{eq-eqb, eqb-true, lt-ltb, le-ltb}
+use borrow.Author.Tests.{eqb-true, lt-ltb, le-ltb}
 use Rattle.calculus.specs.declared.Side.{Side}
 use Rattle.calculus.specs.declared.Side.the-variants.{Left, Right}
 use Rattle.calculus.specs.Fold.{fold, ANY, SUM, choose}
 use Rattle.calculus.specs.Limits.{ROOM, CONNECTIVES}
-use Rattle.calculus.specs.Syntax.{Connective, Formula, Compound, whole, Sequent, on-side, connectives, c, size}
+use Rattle.calculus.specs.Syntax.{Formula, Compound, whole, Sequent, on-side, connectives, c, size}
 use Rattle.calculus.specs.Bytes.{CONNECTIVE, code}
 use Rattle.calculus.specs.Table.{table, premises}
-use Rattle.calculus.specs.Tree.{letters, closing, state, first, missing, Step, closed, opened, full, reduced, due, tests, step, isClosed, isOpen, isFull, isSpent, isDue, afford, inner}
+use Rattle.calculus.specs.Tree.{closing, first, missing, full, reduced, due, step, isDue, afford}
 use Rattle.question.proofs.Readers.{connective-range}
-use Rattle.sequent.specs.declared.Placing.{Placing}
 use Rattle.sequent.specs.declared.Rule.{Rule}
 use Rattle.sequent.specs.Rule.{premiseOf, premisesOf, sided}
 use Rattle.sequent.proofs.Premises.{ones}
@@ -27,10 +26,10 @@ use Rattle.decider.specs.declared.Sets.{Sets}
 use Rattle.decider.specs.declared.Reduction.{Reduction}
 use Rattle.decider.specs.declared.Answer.{Answer}
 use Rattle.decider.specs.declared.Answer.the-variants.{Closed, Open, Full, Spent, Reduce}
-use Rattle.decider.specs.States.{Shows, Runs, Lacks, firstName, secondName, Reduces, Took, resized, Reduced, Counted, Reducing}
+use Rattle.decider.specs.States.{Runs, Lacks, firstName, secondName, Took, resized, Reduced, Reducing}
 use Rattle.decider.proofs.Closing.{not-closed, closed-by}
 use Rattle.decider.proofs.Naming.{NodeTold, node-told, node-read}
-use Rattle.decider.proofs.Rows.{premiseBy, RuleFor, rule-for, premises-by, premise-size}
+use Rattle.decider.proofs.Rows.{premiseBy, rule-for, premises-by, premise-size}
 use Rattle.decider.proofs.Founds.{some-connective, FoundAt}
 
 -- ---- a formula that stands on a side

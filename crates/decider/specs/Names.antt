@@ -34,9 +34,9 @@ abbrev pub bitOf : Bool → ℕ → ℕ
 bitOf true d = choose (ltb d LETTERS) 0 (2 ^ (d - LETTERS))
 bitOf false d = 0
 
-abbrev pub lampOf : Bool → ℕ → ℕ
-lampOf true d = choose (ltb d LETTERS) (2 ^ d) 0
-lampOf false d = 0
+abbrev pub markOf : Bool → ℕ → ℕ
+markOf true d = choose (ltb d LETTERS) (2 ^ d) 0
+markOf false d = 0
 
 abbrev pub waiting : Bool → ℕ → List ℕ
 waiting true d = choose (ltb d LETTERS) [] (d ∷ [])

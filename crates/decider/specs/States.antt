@@ -1,8 +1,7 @@
 -- The running sequent as sets: what it stands for, and what its methods give.
 use mathlib.Core.Path.{_≡_}
-use mathlib.Core.Bool.{Bool, true, false}
 use mathlib.Core.Option.{some}
-use mathlib.Core.List.{List, [], _∷_, _++_, map}
+use mathlib.Core.List.{List, [], _++_, map}
 use Prim.Native.Nat.{ℕ, suc, _+_, _-_, _*_, _/_, _%_, _^_, _≤_, _<_}
 use lib.Bits.{bitOr}
 use lib.Count.{trailingZeros}
@@ -13,12 +12,12 @@ use Rattle.calculus.specs.declared.Side.the-variants.{Left, Right}
 use Rattle.calculus.specs.declared.Kind.{Kind}
 use Rattle.calculus.specs.declared.Kind.the-variants.{Theorem, Refuted, Spent as spent, Full as filled}
 use Rattle.calculus.specs.declared.Outcome.{Outcome}
-use Rattle.calculus.specs.Fold.{choose, Each}
+use Rattle.calculus.specs.Fold.{choose}
 use Rattle.calculus.specs.Limits.{ROOM, LETTERS, CONNECTIVES}
 use Rattle.calculus.specs.Syntax.{Connective, NOT, two, Formula, Compound, whole, Sequent, on-side, connectives, c, size}
 use Rattle.calculus.specs.Bytes.{CONNECTIVE, code}
 use Rattle.calculus.specs.Table.{table}
-use Rattle.calculus.specs.Tree.{letters, state, First, missing, here, first, Inner, isClosed, isOpen, isFull, isSpent, isDue, inner}
+use Rattle.calculus.specs.Tree.{letters, state, first, isClosed, isOpen, isFull, isSpent, isDue, inner}
 use Rattle.sequent.specs.declared.Placing.{Placing}
 use Rattle.sequent.specs.declared.Rule.{Rule}
 use Rattle.sequent.specs.Rule.{sideCode, premisesOf, premiseOf, sided}
@@ -29,15 +28,15 @@ use Rattle.decider.specs.declared.Reduction.{Reduction}
 use Rattle.decider.specs.declared.Tally.{Tally}
 use Rattle.decider.specs.declared.Answer.{Answer}
 use Rattle.decider.specs.declared.Answer.the-variants.{Closed, Open, Full, Spent, Reduce}
-use Rattle.decider.specs.Names.{name, node, Told, bitOf, lampOf, waiting, Rising, Lined}
+use Rattle.decider.specs.Names.{name, Told, bitOf, markOf, waiting, Rising, Lined}
 
 -- ---- the parts, by their names f and g, that a premise puts on a side
 
 abbrev pub partBits : Side → Placing → ℕ → ℕ → ℕ
 partBits t p f g = bitOf (eqb (p .f) (sideCode t)) f + bitOf (eqb (p .g) (sideCode t)) g
 
-abbrev pub partLamps : Side → Placing → ℕ → ℕ → ℕ
-partLamps t p f g = bitOr (lampOf (eqb (p .f) (sideCode t)) f) (lampOf (eqb (p .g) (sideCode t)) g)
+abbrev pub partMarks : Side → Placing → ℕ → ℕ → ℕ
+partMarks t p f g = bitOr (markOf (eqb (p .f) (sideCode t)) f) (markOf (eqb (p .g) (sideCode t)) g)
 
 abbrev pub partsWaiting : Side → Placing → ℕ → ℕ → List ℕ
 partsWaiting Left p f g = []
@@ -55,7 +54,7 @@ replaced Left p f g s =
     record {
       left = s .left + partBits Left p f g;
       first = s .first;
-      leftmask = bitOr (s .leftmask) (partLamps Left p f g);
+      leftmask = bitOr (s .leftmask) (partMarks Left p f g);
       rightmask = s .rightmask;
       from = s .from;
       to = s .to;
@@ -67,7 +66,7 @@ replaced Right p f g s =
       left = s .left;
       first = s .first + partBits Right p f g;
       leftmask = s .leftmask;
-      rightmask = bitOr (s .rightmask) (partLamps Right p f g);
+      rightmask = bitOr (s .rightmask) (partMarks Right p f g);
       from = s .from;
       to = s .to;
       size = s .size;
@@ -82,7 +81,7 @@ appended Right p f g s =
       left = s .left;
       first = s .first;
       leftmask = s .leftmask;
-      rightmask = bitOr (s .rightmask) (partLamps Right p f g);
+      rightmask = bitOr (s .rightmask) (partMarks Right p f g);
       from = s .from;
       to = s .to + length (partsWaiting Right p f g);
       size = s .size;

@@ -5,11 +5,9 @@ use calculus::Side;
 use sequent::Placing;
 use sequent::Rule;
 ghost use mathlib.Core.Path.{_≡_};
-ghost use mathlib.Core.List.{[], _++_};
+ghost use mathlib.Core.List.{_++_};
 ghost use Prim.Native.Nat.{ℕ, _+_, _-_, _*_, _%_, _^_, _≤_, _<_};
-ghost use lib.Bits.{bitOr};
-ghost use lib.Dec.{eqb};
-ghost use lib.ListN.{length, take, drop, getD};
+ghost use lib.ListN.{length, take, getD};
 ghost use Rattle.calculus.specs.Limits.{LETTERS, CONNECTIVES, ROOM};
 ghost use Rattle.calculus.specs.Syntax.{Compound, Sequent, on-side, other, size, connectives};
 ghost use Rattle.calculus.specs.Bytes.{question, Lettered, sideStart, startOf};
@@ -18,9 +16,9 @@ ghost use Rattle.calculus.specs.Table.{premises};
 ghost use Rattle.calculus.specs.Tree.{outcome, pass};
 ghost use Rattle.question.specs.Positions.{Well, formulaAt, endOf};
 ghost use Rattle.sequent.specs.Rule.{sideCode, premiseOf};
-ghost use Rattle.decider.specs.Names.{name, node, Told, bitOf, lampOf, waiting};
+ghost use Rattle.decider.specs.Names.{name, node, bitOf, markOf, waiting};
 ghost use Rattle.decider.specs.Loads.{named, Numbered, Loads, Enters, entered, upTo};
-ghost use Rattle.decider.specs.States.{kindOf, outcomeOf, partBits, partLamps, partsWaiting, setOf, replaced, appended, fetched, lowest, dueIn, placedOf, Takes, Reducing, Shows, Runs, Reduces, Took};
+ghost use Rattle.decider.specs.States.{kindOf, outcomeOf, partBits, partMarks, partsWaiting, setOf, replaced, appended, fetched, lowest, dueIn, placedOf, Takes, Reducing, Runs, Reduces, Took};
 
 // The connectives of a question are numbered in the order of its bytes, and a compound formula is named by its connective.
 // `left` and `first` are sets of such numbers: the left side, and what is left of the right formula under reduction. The
@@ -81,8 +79,8 @@ fn bit(wanted: bool, name: u8) -> u64
     0
 }
 
-fn lamp(wanted: bool, name: u8) -> u64
-    ensures { λ r. ⌜ r ≡ lampOf wanted name ⌝ }
+fn mark(wanted: bool, name: u8) -> u64
+    ensures { λ r. ⌜ r ≡ markOf wanted name ⌝ }
 {
     if wanted {
         if name < LETTERS {
@@ -125,11 +123,11 @@ fn bits_on(side: Side, p: Placing, f: u8, g: u8) -> u64
 }
 
 // The letters among them.
-fn lamps_on(side: Side, p: Placing, f: u8, g: u8) -> u64
-    ensures { λ r. ⌜ r ≡ partLamps side p f g ⌝ }
+fn marks_on(side: Side, p: Placing, f: u8, g: u8) -> u64
+    ensures { λ r. ⌜ r ≡ partMarks side p f g ⌝ }
 {
     let s = side_code(side);
-    lamp(p.f == s, f) | lamp(p.g == s, g)
+    mark(p.f == s, f) | mark(p.g == s, g)
 }
 
 // The lowest of a set.
@@ -156,16 +154,16 @@ impl Sets {
         ensures { λ r. ⌜ r ≡ replaced side p f g self ⌝ }
     {
         let bits = bits_on(side, p, f, g);
-        let lamps = lamps_on(side, p, f, g);
+        let marks = marks_on(side, p, f, g);
         match side {
             Side::Left => {
                 self.left = self.left + bits;
-                self.leftmask = self.leftmask | lamps;
+                self.leftmask = self.leftmask | marks;
                 return self;
             }
             Side::Right => {
                 self.first = self.first + bits;
-                self.rightmask = self.rightmask | lamps;
+                self.rightmask = self.rightmask | marks;
                 return self;
             }
         }
@@ -176,10 +174,10 @@ impl Sets {
         requires { ⌜ self .to + 2 ≤ length (now queue) ⌝ }
         ensures { λ r. ⌜ (r ≡ appended Side.Right p f g self) × (take (r .to) (now (queue .exit)) ≡ take (self .to) (now (queue .entry)) ++ partsWaiting Side.Right p f g) ⌝ }
     {
-        let lamps = lamps_on(Side::Right, p, f, g);
+        let marks = marks_on(Side::Right, p, f, g);
         let next = push(queue, self.to, p.f == 2, f);
         self.to = push(queue, next, p.g == 2, g);
-        self.rightmask = self.rightmask | lamps;
+        self.rightmask = self.rightmask | marks;
         self
     }
 

@@ -1,11 +1,9 @@
 -- `decider::number` meets its contract. The measure is the bytes left. Assumes nothing.
-use mathlib.Core.Path.{_≡_, refl, sym, ap, _∙_}
+use mathlib.Core.Path.{refl, _∙_}
 use native.Mathlib.Omega.{arith}
-use borrow.Author.Needs.{needs}
 use lib.ListN.{length, getD, length-set}
-use Rattle.question.proofs.Walks.{well-inside, end-inside}
-use Rattle.question.proofs.Parts.{end-onward}
-use Rattle.decider.proofs.Loading.{first-here, two-here, number-letter, number-not, number-two, second-enters}
+use Rattle.question.proofs.Walks.{well-inside}
+use Rattle.decider.proofs.Loading.{first-here, number-letter, number-not, number-two, second-enters}
 use Prim.Native.Nat.{ℕ, _-_, _<_}
 use borrow.Fn.Kinds.{In}
 use borrow.Fn.PlainCycle.{Measures, is, falls, and}

@@ -1,15 +1,15 @@
 -- The run and its premises: both functions meet their contracts.
 -- The measure is twice the connective count of the running sequent, and one more where its tests are still to be made. Assumes nothing.
-use mathlib.Core.Path.{_≡_, refl, sym, ap, _∙_}
+use mathlib.Core.Path.{_≡_, refl, ap, _∙_}
 use native.Mathlib.Omega.{arith}
 use borrow.Author.Needs.{needs}
-use lib.ListN.{length, take}
-use Prim.Native.Nat.{ℕ, _+_, _*_, _^_, _<_, _≤_}
+use lib.ListN.{take}
+use Prim.Native.Nat.{ℕ, _+_, _*_, _^_, _<_}
 use Rattle.calculus.specs.Syntax.{Compound, Sequent}
 use Rattle.calculus.specs.declared.Outcome.{Outcome}
-use Rattle.calculus.specs.Tree.{outcome, Inner, isClosed, isOpen, isFull, isSpent, isDue}
+use Rattle.calculus.specs.Tree.{outcome, isClosed, isOpen, isFull, isSpent, isDue}
 use Rattle.decider.specs.declared.Sets.{Sets}
-use Rattle.decider.specs.States.{kindOf, outcomeOf, Runs, Took, Reduces}
+use Rattle.decider.specs.States.{kindOf, outcomeOf, Runs, Reduces}
 use Rattle.decider.proofs.Passes.{premised-connectives, premise-kept, reduces-kept, due-left, answered, closings-small, first-runs, second-runs, first-asks, second-asks, pass-one, pass-stop, pass-two, refuted-ending, theorem-ending, other-ending}
 use Rattle.decider.proofs.Rows.{premiseBy}
 use borrow.Fn.Kinds.{In}

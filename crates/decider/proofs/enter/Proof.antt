@@ -1,5 +1,5 @@
 -- `decider::enter` meets its contract. Assumes nothing.
-use mathlib.Core.Path.{_≡_, refl, sym, ap, _∙_}
+use mathlib.Core.Path.{_≡_, refl, ap, _∙_}
 use Prim.Native.Nat.{_+_, _≤_}
 use native.Mathlib.Omega.{arith}
 use borrow.Author.Needs.{needs}
@@ -10,7 +10,7 @@ use Rattle.decider.specs.declared.Sets.{Sets}
 use Rattle.decider.specs.declared.Named.{Named}
 use Rattle.decider.specs.Names.{name}
 use Rattle.decider.specs.Loads.{named}
-use Rattle.decider.proofs.Entering.{enter-by, enter-fits, enter-name, appended-size, alone}
+use Rattle.decider.proofs.Entering.{enter-by, enter-fits, enter-name, appended-size}
 use Rattle.decider.proofs.enter.Statement.{statement}
 use Rattle.decider.proofs.enter.Tie as tie
 

@@ -1,5 +1,4 @@
 -- `decider::kind` meets its contract. Assumes nothing.
-use mathlib.Core.Path.{_≡_, refl}
 use borrow.Author.Needs.{needs}
 use borrow.Author.Tests.{ne-eqb}
 use Rattle.decider.proofs.kind.Statement.{statement}

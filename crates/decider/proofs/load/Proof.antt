@@ -1,10 +1,10 @@
 -- `decider::load` meets its contract. The loop's invariant: the formulas up to place i have come. The measure is those that are left. Assumes nothing.
-use mathlib.Core.Path.{_≡_, refl, sym, ap, _∙_}
-use Prim.Native.Nat.{ℕ, _+_, _-_, _≤_, _<_}
+use mathlib.Core.Path.{_≡_, refl, sym, _∙_}
+use Prim.Native.Nat.{_+_, _-_, _≤_, _<_}
 use native.Mathlib.Nat.{add-zero}
 use native.Mathlib.Omega.{arith}
 use lib.ListN.{length}
-use Rattle.calculus.specs.Syntax.{Sequent, on-side}
+use Rattle.calculus.specs.Syntax.{on-side}
 use Rattle.calculus.specs.Bytes.{question, startOf}
 use Rattle.question.specs.Positions.{formulaAt}
 use Rattle.decider.specs.Loads.{Loads, entered, upTo}

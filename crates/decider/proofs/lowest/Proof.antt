@@ -1,5 +1,5 @@
 -- `decider::lowest` meets its contract. Assumes nothing.
-use mathlib.Core.Path.{_≡_, refl}
+use mathlib.Core.Path.{refl}
 use native.Mathlib.Omega.{arith}
 use Rattle.decider.proofs.Numbers.{lowest-in}
 use Rattle.decider.proofs.lowest.Statement.{statement}

@@ -1,5 +1,4 @@
 -- `decider::parts` meets its contract. Assumes nothing.
-use mathlib.Core.Path.{_∙_}
 use native.Mathlib.Omega.{arith}
 use borrow.Author.Needs.{needs}
 use Rattle.decider.proofs.Rows.{placed-parts}

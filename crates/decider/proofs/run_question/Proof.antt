@@ -1,5 +1,5 @@
 -- `decider::run_question` meets its contract: the sets of the whole question are run. Assumes nothing.
-use mathlib.Core.Path.{_≡_, refl, _∙_}
+use mathlib.Core.Path.{refl, _∙_}
 use native.Mathlib.Omega.{arith}
 use borrow.Author.Needs.{needs}
 use Rattle.calculus.specs.declared.Side.the-variants.{Right}

@@ -1,5 +1,5 @@
 -- `decider::Sets::append` meets its contract. Assumes nothing.
-use mathlib.Core.Path.{_≡_, refl, sym}
+use mathlib.Core.Path.{refl, sym}
 use mathlib.Core.List.{append-nil}
 use lib.ListN.{take}
 use borrow.Author.Needs.{needs}

@@ -1,5 +1,4 @@
 -- `decider::Sets::fetch` meets its contract. Assumes nothing.
-use mathlib.Core.Path.{_≡_, refl}
 use native.Mathlib.Omega.{arith}
 use Prim.Native.Nat.{_-_}
 use lib.ListN.{getD}

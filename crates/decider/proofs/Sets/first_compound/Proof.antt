@@ -1,7 +1,6 @@
 -- `decider::Sets::first_compound` meets its contract. Assumes nothing.
-use mathlib.Core.Path.{_≡_, refl}
 use borrow.Author.Needs.{needs}
-use borrow.Author.Tests.{eq-eqb, ne-eqb}
+use borrow.Author.Tests.{ne-eqb}
 use Rattle.decider.proofs.States.{due-right, due-nothing}
 use Rattle.decider.proofs.Sets.first_compound.Statement.{statement}
 use Rattle.decider.proofs.Sets.first_compound.Tie as tie

@@ -1,5 +1,5 @@
 -- `decider::Sets::premise` meets its contract. Assumes nothing.
-use mathlib.Core.Path.{_≡_, refl, sym, ap, _∙_}
+use mathlib.Core.Path.{_∙_}
 use borrow.Author.Needs.{needs}
 use lib.ListN.{length}
 use Rattle.decider.proofs.States.{takes-replaced, replaced-to}

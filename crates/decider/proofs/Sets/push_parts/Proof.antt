@@ -1,5 +1,4 @@
 -- `decider::Sets::push_parts` meets its contract. Assumes nothing.
-use mathlib.Core.Path.{_≡_, refl}
 use native.Mathlib.Omega.{arith}
 use lib.Dec.{eqb}
 use borrow.Author.Needs.{needs}
@@ -25,4 +24,4 @@ push-parts-spec =
     let l = c .before .before .before .before .before .before .before .before .before .before .before in
     let a = l .before .before .args in
     let b = pushed-both (a .queue .now) (p .last .0) (v .last .0) (a .self .to) (p .result) (v .result) (waiting (eqb (a .p .f) 2) (a .f)) (waiting (eqb (a .p .g) 2) (a .g)) (p .ensures .0) (p .ensures .1) (v .ensures .0) (v .ensures .1) in
-    (rw (l .lamps-on .ensures, b .0), b .1)))
+    (rw (l .marks-on .ensures, b .0), b .1)))

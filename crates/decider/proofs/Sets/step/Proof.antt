@@ -1,9 +1,7 @@
 -- `decider::Sets::step` meets its contract. Assumes nothing.
-use mathlib.Core.Path.{_≡_, refl, sym, ap, _∙_}
 use native.Mathlib.Omega.{arith}
 use borrow.Author.Needs.{needs}
 use Rattle.calculus.specs.Syntax.{Sequent}
-use Rattle.decider.specs.declared.Due.the-variants.{At, Nothing}
 use Rattle.decider.specs.States.{Runs}
 use Rattle.decider.proofs.Founds.{FoundAt, Found, found, fetch-fits}
 use Rattle.decider.proofs.Tests.{took-closed, took-open, reduction-asks, took}

@@ -1,14 +1,14 @@
--- `decider::lamp` meets its contract. Assumes nothing.
+-- `decider::mark` meets its contract. Assumes nothing.
 use native.Mathlib.Omega.{arith}
 use borrow.Author.Needs.{needs}
 use borrow.Author.Tests.{le-ltb, lt-ltb}
 use Rattle.calculus.specs.Limits.{LETTERS}
 use Rattle.decider.proofs.Numbers.{shifted}
-use Rattle.decider.proofs.lamp.Statement.{statement}
-use Rattle.decider.proofs.lamp.Tie as tie
+use Rattle.decider.proofs.mark.Statement.{statement}
+use Rattle.decider.proofs.mark.Tie as tie
 
-pub lamp-spec : {M : Type 1} → statement M
-lamp-spec =
+pub mark-spec : {M : Type 1} → statement M
+mark-spec =
     tie.close
     (tie.spec
     (λ c. search needs)
