@@ -280,7 +280,8 @@ impl Sets {
         })
     }
 
-    // The inner step: a running sequent through the tests, with the reductions left.
+    // The inner step: a running sequent through the tests, with the reductions left. Its contract gives Spent where a compound
+    // is left and no reduction is, and a run goes on only with the reduction that it is handed: none is taken after SPENT.
     fn step(self, nodes: &[u32], queue: &[u8], left: u64) -> Answer
         requires { ⌜ ((S : Sequent) × Runs (now nodes) (now queue) self S) ⌝ }
         ensures { λ r. ⌜ ((S : Sequent) → Runs (now (nodes .entry)) (now (queue .entry)) self S → Took (now (nodes .entry)) (now (queue .entry)) self left S r) ⌝ }

@@ -1,33 +1,22 @@
 -- The run: what a reduction comes to.
 -- Assumes nothing.
 use mathlib.Core.Path.{_≡_, refl, sym, ap, _∙_, subst}
-use mathlib.Core.Logic.{_≢_}
 use mathlib.Core.Bool.{false, _||_}
 use mathlib.Core.Option.{Option, some}
 use mathlib.Core.List.{List, [], _∷_}
-use Prim.Native.Nat.{ℕ, zero, suc, _+_, _-_, _^_, _≤_}
-use native.Mathlib.Nat.{add-zero}
+use Prim.Native.Nat.{ℕ, _+_, _≤_}
 use native.Mathlib.Omega.{arith}
-use lib.Dec.{eqb, ltb}
+use lib.Dec.{ltb}
 use lib.ListN.{length, getElem?, length-take}
-use lib.Pow.{pow-mono}
 use borrow.Author.Tests.{eq-eqb, ne-eqb, ltb-false}
 use Rattle.calculus.specs.declared.Side.{Side}
 use Rattle.calculus.specs.declared.Side.the-variants.{Left, Right}
-use Rattle.calculus.specs.declared.Kind.{Kind}
-use Rattle.calculus.specs.declared.Kind.the-variants.{Theorem, Refuted, Spent, Full}
-use Rattle.calculus.specs.declared.Outcome.{Outcome}
 use Rattle.calculus.specs.Fold.{fold, ANY, Each}
-use Rattle.calculus.specs.Limits.{ROOM, CONNECTIVES}
+use Rattle.calculus.specs.Limits.{ROOM}
 use Rattle.calculus.specs.Syntax.{Formula, Sequent, on-side, c, size}
 use Rattle.calculus.specs.Table.{premise, premises}
-use Rattle.calculus.specs.Tree.{Event, close, reduce, tree, closings, spend, outcome, isDue, andThen, pass, act, inner}
-use Rattle.calculus.specs.Width.{W}
 use Rattle.calculus.proofs.Folds.{or-false-both}
 use Rattle.calculus.proofs.Sequents.{Due, Smaller, smaller}
-use Rattle.calculus.proofs.Bounds.{closings-bound, W-bound}
-use Rattle.calculus.proofs.Budgets.{outcome-step, spend-closings}
-use Rattle.calculus.specs.Tree.{closingsBefore}
 use Rattle.question.specs.Positions.{formulaAt}
 use Rattle.sequent.specs.declared.Running.{Running}
 use Rattle.sequent.specs.View.{lane, countOf, view, formulasOf, places, sequentOf, Good, Compounds}
@@ -38,38 +27,9 @@ use Rattle.sequent.proofs.Premises.{element}
 use Rattle.reduction.specs.declared.Reduction.{Reduction}
 use Rattle.reduction.specs.Reduction.{compoundAt, premiseBy, Reduces}
 use Rattle.reduction.proofs.Reductions.{premisesWith, premises-rule, premise-stands, placed-size}
-use Rattle.prover.specs.declared.Due.{Due as Answer}
-use Rattle.prover.specs.Inner.{innerOf, ReadyAt, ended}
-
--- ---- closings
-
-closings-before : (b : ℕ) (es : List Event) → closingsBefore b es ≤ closings es
-closings-before b [] = omega arith
-closings-before b (close k ∷ es) = omega (arith, closings-before b es)
-closings-before zero (reduce s i k ∷ es) = omega arith
-closings-before (suc b) (reduce s i k ∷ es) = omega (arith, closings-before b es)
-
-pub outcome-closings : (b : ℕ) (S : Sequent) → c S ≤ CONNECTIVES → outcome b S .closings ≤ 2 ^ CONNECTIVES
-outcome-closings b S h =
-    let p : 2 ^ c S ≤ 2 ^ CONNECTIVES = pow-mono {j = CONNECTIVES} h in
-    omega (arith, spend-closings b (tree S .events) (tree S .end), closings-before b (tree S .events), closings-bound S, W-bound S)
+use Rattle.prover.specs.Inner.{ReadyAt}
 
 -- ---- one premise, or two
-
-pass-one : (b : ℕ) (P : Sequent) → pass outcome b (P ∷ []) ≡ outcome b P
-pass-one b P = go (outcome b P .kind) refl
-  where
-    go : (k : Kind) → outcome b P .kind ≡ k → andThen k (outcome b P) (λ l. ended Theorem l 0) ≡ outcome b P
-    go Theorem e = λ i. record { kind = sym e i; unspent = outcome b P .unspent; closings = add-zero (outcome b P .closings) i }
-    go (Refuted σ) e = refl
-    go Spent e = refl
-    go Full e = refl
-
-stop : (k : Kind) (o : Outcome) (u : ℕ → Outcome) → k ≢ Theorem → andThen k o u ≡ o
-stop Theorem o u n = absurd (n refl)
-stop (Refuted σ) o u n = refl
-stop Spent o u n = refl
-stop Full o u n = refl
 
 module _ (q : List ℕ) (s : Running) (good : Good q s) (items : length (s .items) ≡ ROOM) (left : ℕ) (t : Side) (i p : ℕ) (ready : ReadyAt q s left t i p)
     (r : Reduction) (how : Reduces q p t r) where
@@ -141,29 +101,3 @@ module _ (q : List ℕ) (s : Running) (good : Good q s) (items : length (s .item
   pub premises-two : r .rule .premises ≡ 2
       → premises t i (compoundAt q p) (sequentOf q s) ≡ premiseBy t i (sequentOf q s) (compoundAt q p) (r .rule .first) ∷ premiseBy t i (sequentOf q s) (compoundAt q p) (r .rule .second) ∷ []
   premises-two two = premises-are ∙ both two
-
-  -- ---- what the run comes to
-
-  module _ (due : isDue t i (compoundAt q p) ≡ inner left (sequentOf q s)) where
-    passes : outcome left (sequentOf q s) ≡ pass outcome (left - 1) (premisesWith t i (sequentOf q s) (compoundAt q p) (r .rule))
-    passes = outcome-step left (sequentOf q s) ∙ ap (act outcome left (sequentOf q s)) (sym due) ∙ ap (pass outcome (left - 1)) premises-are
-
-    pub ran-one : (r .rule .premises ≡ 2 → ⊥) → outcome (left - 1) (premiseBy t i (sequentOf q s) (compoundAt q p) (r .rule .first)) ≡ outcome left (sequentOf q s)
-    ran-one n = sym (passes ∙ rw (ne-eqb (r .rule .premises) 2 n) (pass-one (left - 1) (premiseBy t i (sequentOf q s) (compoundAt q p) (r .rule .first))))
-
-    module _ (two : r .rule .premises ≡ 2) (o : Outcome) (e : o ≡ outcome (left - 1) (premiseBy t i (sequentOf q s) (compoundAt q p) (r .rule .first))) where
-      chained : outcome left (sequentOf q s) ≡ andThen (o .kind) o (λ l. pass outcome l (premiseBy t i (sequentOf q s) (compoundAt q p) (r .rule .second) ∷ []))
-      chained =
-          passes ∙ ap (pass outcome (left - 1)) (both two)
-          ∙ ap (λ (w : Outcome). andThen (w .kind) w (λ l. pass outcome l (premiseBy t i (sequentOf q s) (compoundAt q p) (r .rule .second) ∷ []))) (sym e)
-
-      pub ran-stop : o .kind ≢ Theorem → o ≡ outcome left (sequentOf q s)
-      ran-stop n = sym (chained ∙ stop (o .kind) o _ n)
-
-      pub ran-both : o .kind ≡ Theorem → (w : Outcome) → w ≡ outcome (o .unspent) (premiseBy t i (sequentOf q s) (compoundAt q p) (r .rule .second))
-          → ended (w .kind) (w .unspent) (o .closings + w .closings) ≡ outcome left (sequentOf q s)
-      ran-both k w d = sym (chained ∙ rw k (rw (pass-one (o .unspent) (premiseBy t i (sequentOf q s) (compoundAt q p) (r .rule .second)), ← d)))
-
--- where nothing is reduced
-pub leaf : (q : List ℕ) (s : Running) (left : ℕ) (r : Answer) → innerOf q r ≡ inner left (sequentOf q s) → act outcome left (sequentOf q s) (innerOf q r) ≡ outcome left (sequentOf q s)
-leaf q s left r e = ap (act outcome left (sequentOf q s)) e ∙ sym (outcome-step left (sequentOf q s))

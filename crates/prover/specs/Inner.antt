@@ -5,8 +5,6 @@ use mathlib.Core.List.{List}
 use Prim.Native.Nat.{ℕ, _<_}
 use lib.Dec.{ltb}
 use Rattle.calculus.specs.declared.Side.{Side}
-use Rattle.calculus.specs.declared.Kind.{Kind}
-use Rattle.calculus.specs.declared.Outcome.{Outcome}
 use Rattle.calculus.specs.Fold.{fold, ANY}
 use Rattle.calculus.specs.Limits.{ROOM}
 use Rattle.calculus.specs.Syntax.{size}
@@ -47,6 +45,3 @@ pub record Stepped (q : List ℕ) (s : Running) (left : ℕ) (r : Due) : Type 0 
 pub record IsDue (q : List ℕ) (s : Running) (left : ℕ) (t : Side) (i p : ℕ) : Type 0 where
   pub due : isDue t i (compoundAt q p) ≡ inner left (sequentOf q s)
   pub ready : ReadyAt q s left t i p
-
-abbrev pub ended : Kind → ℕ → ℕ → Outcome
-ended k l n = record { kind = k; unspent = l; closings = n }
