@@ -42,7 +42,7 @@ fn answer(q: &[u8]) -> Line
 {
     let widths = width::width(q);
     match widths {
-        width::Answer::Refused(r) => Line::Refused(print::number_of(r), print::place_of(r)),
+        width::Answer::Refused(r) => Line::Refused(r.number() as u64, r.place() as u64),
         width::Answer::Of(w, _) => verdict_line(prover::verdict_of(q, BUDGET), w),
     }
 }

@@ -18,7 +18,7 @@ ghost use Rattle.calculus.specs.Reading.{accepted, reading};
 ghost use Rattle.calculus.specs.Derivation.{REDUCE, order, obey, Derivation};
 ghost use Rattle.calculus.specs.Reply.{checkReply};
 ghost use Rattle.sequent.specs.View.{Good, sequentOf};
-ghost use Rattle.checker.specs.Answers.{checkOf};
+ghost use Rattle.checker.specs.Answers.{faultNumber, faultPlace, checkOf};
 ghost use Rattle.checker.specs.Walks.{orderOf, Moves, Reducing, premisesAt, Roomy, Walks};
 
 // What is wrong with a derivation, and the place of the command, or of the first byte left over.
@@ -29,6 +29,36 @@ pub enum Fault {
     OtherConnective(usize),
     NotClosed(usize),
     BytesAfter(usize),
+}
+
+impl Fault {
+    // Document 01's number.
+    pub fn number(self) -> u32
+        ensures { λ r. ⌜ r ≡ faultNumber self ⌝ }
+    {
+        match self {
+            Fault::CutShort(_) => 20,
+            Fault::UnknownCommand(_) => 21,
+            Fault::NoFormula(_) => 22,
+            Fault::OtherConnective(_) => 23,
+            Fault::NotClosed(_) => 24,
+            Fault::BytesAfter(_) => 25,
+        }
+    }
+
+    // Its place.
+    pub fn place(self) -> usize
+        ensures { λ r. ⌜ r ≡ faultPlace self ⌝ }
+    {
+        match self {
+            Fault::CutShort(at) => at,
+            Fault::UnknownCommand(at) => at,
+            Fault::NoFormula(at) => at,
+            Fault::OtherConnective(at) => at,
+            Fault::NotClosed(at) => at,
+            Fault::BytesAfter(at) => at,
+        }
+    }
 }
 
 pub enum Answer {

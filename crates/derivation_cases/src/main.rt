@@ -2,41 +2,11 @@
 // to 25. Number 8 has none: no premise of an accepted question holds more than 80 formulas.
 use calculus::Kind;
 use calculus::Verdict;
-use checker::Fault;
 ghost use mathlib.Core.Path.{_≡_};
 ghost use Prim.Native.Nat.{_≤_};
 ghost use lib.ListN.{length};
-ghost use Rattle.checker.specs.Answers.{faultNumber, faultPlace};
 
 const BUDGET: u64 = 1000000;
-
-// Document 01's number of a fault.
-fn number_of(fault: Fault) -> u64
-    ensures { λ r. ⌜ r ≡ faultNumber fault ⌝ }
-{
-    match fault {
-        Fault::CutShort(_) => 20,
-        Fault::UnknownCommand(_) => 21,
-        Fault::NoFormula(_) => 22,
-        Fault::OtherConnective(_) => 23,
-        Fault::NotClosed(_) => 24,
-        Fault::BytesAfter(_) => 25,
-    }
-}
-
-// Its place.
-fn place_of(fault: Fault) -> u64
-    ensures { λ r. ⌜ r ≡ faultPlace fault ⌝ }
-{
-    match fault {
-        Fault::CutShort(at) => at as u64,
-        Fault::UnknownCommand(at) => at as u64,
-        Fault::NoFormula(at) => at as u64,
-        Fault::OtherConnective(at) => at as u64,
-        Fault::NotClosed(at) => at as u64,
-        Fault::BytesAfter(at) => at as u64,
-    }
-}
 
 // One line: what the checker answers.
 fn check(q: &[u8], derivation: &[u8]) {
@@ -45,8 +15,8 @@ fn check(q: &[u8], derivation: &[u8]) {
         checker::Answer::Refused(r) => print::refused(r),
         checker::Answer::Faulty(f) => {
             print::word(b"faulty");
-            print::number(number_of(f));
-            print::number(place_of(f));
+            print::number(f.number() as u64);
+            print::number(f.place() as u64);
             print::end_line();
         }
         checker::Answer::Passes => print::word(b"passes\n"),

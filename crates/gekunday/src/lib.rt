@@ -85,15 +85,7 @@ fn placed(number: u32, place: usize) -> Words
 fn refusal_words(r: Refusal) -> Words
     ensures { λ w. ⌜ Holds (record { number = numberOf r; values = placeOf r ∷ [] }) w ⌝ }
 {
-    match r {
-        Refusal::TooLong => placed(1, 212),
-        Refusal::Cut(at) => placed(2, at),
-        Refusal::WrongCommand(at) => placed(3, at),
-        Refusal::ManyFormulas(at) => placed(4, at),
-        Refusal::NoSuchLetter(at) => placed(5, at),
-        Refusal::ManyConnectives(at) => placed(6, at),
-        Refusal::LeftOver(at) => placed(7, at),
-    }
+    placed(r.number(), r.place())
 }
 
 fn width_words(a: width::Answer) -> Words
@@ -163,14 +155,7 @@ fn derivation_words(a: writer::Answer) -> Words
 fn fault_words(f: Fault) -> Words
     ensures { λ w. ⌜ Holds (record { number = faultNumber f; values = faultPlace f ∷ [] }) w ⌝ }
 {
-    match f {
-        Fault::CutShort(at) => placed(20, at),
-        Fault::UnknownCommand(at) => placed(21, at),
-        Fault::NoFormula(at) => placed(22, at),
-        Fault::OtherConnective(at) => placed(23, at),
-        Fault::NotClosed(at) => placed(24, at),
-        Fault::BytesAfter(at) => placed(25, at),
-    }
+    placed(f.number(), f.place())
 }
 
 fn check_words(a: checker::Answer) -> Words

@@ -6,7 +6,6 @@ ghost use Prim.Native.Nat.{_+_, _*_, _≤_, _<_};
 ghost use lib.ListN.{length, drop};
 ghost use lib.Seq.{sets};
 ghost use Rattle.io.specs.Digits.{glyph};
-ghost use Rattle.question.specs.Answers.{numberOf, placeOf};
 ghost use Rattle.print.specs.Text.{spelled, hexadecimal};
 
 // The hexadecimal digit of a number below 16.
@@ -41,36 +40,6 @@ pub fn put_bytes(bytes: &[u8], out: &mut [u8]) -> usize
     3 * i
 }
 
-// Document 01's number of a refusal.
-pub fn number_of(refusal: Refusal) -> u64
-    ensures { λ r. ⌜ r ≡ numberOf refusal ⌝ }
-{
-    match refusal {
-        Refusal::TooLong => 1,
-        Refusal::Cut(_) => 2,
-        Refusal::WrongCommand(_) => 3,
-        Refusal::ManyFormulas(_) => 4,
-        Refusal::NoSuchLetter(_) => 5,
-        Refusal::ManyConnectives(_) => 6,
-        Refusal::LeftOver(_) => 7,
-    }
-}
-
-// Its place.
-pub fn place_of(refusal: Refusal) -> u64
-    ensures { λ r. ⌜ r ≡ placeOf refusal ⌝ }
-{
-    match refusal {
-        Refusal::TooLong => 212,
-        Refusal::Cut(at) => at as u64,
-        Refusal::WrongCommand(at) => at as u64,
-        Refusal::ManyFormulas(at) => at as u64,
-        Refusal::NoSuchLetter(at) => at as u64,
-        Refusal::ManyConnectives(at) => at as u64,
-        Refusal::LeftOver(at) => at as u64,
-    }
-}
-
 pub fn word(text: &[u8]) {
     io::write_all(1, text);
 }
@@ -99,7 +68,7 @@ pub fn bytes(list: &[u8])
 // The line `refused n p`.
 pub fn refused(refusal: Refusal) {
     word(b"refused");
-    number(number_of(refusal));
-    number(place_of(refusal));
+    number(refusal.number() as u64);
+    number(refusal.place() as u64);
     end_line();
 }

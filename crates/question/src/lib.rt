@@ -10,7 +10,7 @@ ghost use Rattle.calculus.specs.Syntax.{on-side};
 ghost use Rattle.calculus.specs.Bytes.{SIDE, code, command, formulas, bytesAll, question, sideStart};
 ghost use Rattle.calculus.specs.Reading.{after, begin, advance, ended, accepted, reading};
 ghost use Rattle.calculus.specs.Reply.{formulaPart, formulaBytes};
-ghost use Rattle.question.specs.Answers.{readingOf, moved, movedBy, moves, dueIn};
+ghost use Rattle.question.specs.Answers.{numberOf, placeOf, readingOf, moved, movedBy, moves, dueIn};
 ghost use Rattle.question.specs.Positions.{Well, endOf, commandLength, dueAfter, partBytes};
 
 // The limits of document 01.
@@ -31,6 +31,38 @@ pub enum Refusal {
     NoSuchLetter(usize),
     ManyConnectives(usize),
     LeftOver(usize),
+}
+
+impl Refusal {
+    // Document 01's number.
+    pub fn number(self) -> u32
+        ensures { λ r. ⌜ r ≡ numberOf self ⌝ }
+    {
+        match self {
+            Refusal::TooLong => 1,
+            Refusal::Cut(_) => 2,
+            Refusal::WrongCommand(_) => 3,
+            Refusal::ManyFormulas(_) => 4,
+            Refusal::NoSuchLetter(_) => 5,
+            Refusal::ManyConnectives(_) => 6,
+            Refusal::LeftOver(_) => 7,
+        }
+    }
+
+    // Its place.
+    pub fn place(self) -> usize
+        ensures { λ r. ⌜ r ≡ placeOf self ⌝ }
+    {
+        match self {
+            Refusal::TooLong => LONGEST_QUESTION,
+            Refusal::Cut(at) => at,
+            Refusal::WrongCommand(at) => at,
+            Refusal::ManyFormulas(at) => at,
+            Refusal::NoSuchLetter(at) => at,
+            Refusal::ManyConnectives(at) => at,
+            Refusal::LeftOver(at) => at,
+        }
+    }
 }
 
 pub enum Reading {

@@ -21,11 +21,14 @@ width-requires c κs = search needs
 enum-known-widths : tie.Need-enum-known-widths
 enum-known-widths c = search needs
 
-number-of-requires : tie.Need-number-of-requires
-number-of-requires c κs = search needs
+number-requires : tie.Need-number-requires
+number-requires c κs = search needs
 
-place-of-requires : tie.Need-place-of-requires
-place-of-requires c κs = search needs
+cast-t7 : tie.Need-cast-t7
+cast-t7 c = search needs
+
+place-requires : tie.Need-place-requires
+place-requires c κs = search needs
 
 enum-known-widths-2 : tie.Need-enum-known-widths-2
 enum-known-widths-2 c = search needs
@@ -40,7 +43,7 @@ returns : tie.Need-returns
 returns c =
     let r = c .before .before .before .widths .given in
     let q = c .before .before .before .before .before .before .before .args .q .now in
-    ap (λ n. Refused n (c .place-of .result)) (c .before .number-of .ensures) ∙ ap (λ p. Refused (numberOf (r .0 .0)) p) (c .place-of .ensures)
+    ap (λ n. Refused n (c .place .result)) (c .before .number .ensures) ∙ ap (λ p. Refused (numberOf (r .0 .0)) p) (c .place .ensures)
     ∙ width-refused q (r .0 .0) (rw (r .1) at (c .before .before .before .before .before .width .ensures .0)) (verdict BUDGET (question q)) (W (question q))
 
 returns-2 : tie.Need-returns-2
@@ -56,8 +59,9 @@ answer-spec =
     (tie.spec
     width-requires
     enum-known-widths
-    number-of-requires
-    place-of-requires
+    number-requires
+    cast-t7
+    place-requires
     enum-known-widths-2
     verdict-of-requires
     verdict-line-requires
