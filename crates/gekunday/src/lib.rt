@@ -50,7 +50,7 @@ pub fn formula(q: &[u8], side: Side, place: usize) -> &[u8]
 pub fn derive(q: &[u8], budget: u64, buffer: &mut [u8]) -> writer::Answer
     ensures reply { λ r. ⌜ answerOf r ≡ derive (now (q .entry)) budget (now (buffer .entry)) .reply ⌝ }
     ensures written { λ r. ⌜ now (buffer .exit) ≡ derive (now (q .entry)) budget (now (buffer .entry)) .buffer ⌝ }
-    ensures evidence { λ r. ⌜ ((n : ℕ) (v : Verdict) → r ≡ Written n v → Evidence (now (q .entry)) (take n (now (buffer .exit)))) ⌝ }
+    ensures evidence { λ r. ⌜ ((n : ℕ) (v : Verdict) → r ≡ Written n v → (v .kind ≡ Kind.Theorem) × Evidence (now (q .entry)) (take n (now (buffer .exit)))) ⌝ }
 {
     writer::derive(q, budget, buffer)
 }

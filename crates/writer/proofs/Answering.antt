@@ -83,7 +83,7 @@ module _ (S : Sequent) (v : Verdict) (t : IsTheorem S v) where
       record {
         reply = ap (λ (m : ℕ). record { number = 0; values = m ∷ v .reductions ∷ v .closings ∷ [] }) (e ∙ needed) ∙ ap (λ (x : Wrote). x .reply) (sym w);
         buffer = l ∙ ap (λ (x : Wrote). x .buffer) (sym w);
-        taken = λ m u d. let k : n ≡ m = cc in ap (take m) l ∙ take-at (derivation S) (drop (length (derivation S)) old) m (omega (arith, needed));
+        taken = λ m u d. let k : n ≡ m = cc in let same : u ≡ v = cc in (same, ap (take m) l ∙ take-at (derivation S) (drop (length (derivation S)) old) m (omega (arith, needed)));
       }
 
 -- ---- the answers of the call
@@ -101,7 +101,7 @@ is-theorem b S v e h = go (decLt b (reductions (tree S .events)))
 -- what the contract says of an answer
 abbrev pub Answers : List ℕ → ℕ → List ℕ → List ℕ → Answer → Type 0
 Answers q b old new r =
-    (answerOf r ≡ derive q b old .reply) × (new ≡ derive q b old .buffer) × ((n : ℕ) (v : Verdict) → r ≡ Written n v → Evidence q (take n new))
+    (answerOf r ≡ derive q b old .reply) × (new ≡ derive q b old .buffer) × ((n : ℕ) (v : Verdict) → r ≡ Written n v → (v .kind ≡ Theorem) × Evidence q (take n new))
 
 module _ (q : List ℕ) (b : ℕ) (a : reading q ≡ accepted) (v : Verdict) (e : v ≡ verdict b (question q)) where
   pub theorem-is : v .kind ≡ Theorem → IsTheorem (question q) v
@@ -116,7 +116,7 @@ module _ (q : List ℕ) (b : ℕ) (a : reading q ≡ accepted) (v : Verdict) (e 
       let p = is-theorem b (question q) v e k .proved in (
         w .reply ∙ ap (λ (x : Wrote). x .reply) (sym o),
         w .buffer ∙ ap (λ (x : Wrote). x .buffer) (sym o),
-        λ n u d. record { read = a; valid = theorem-true (question q) p; checks = ap (checking (question q)) (w .taken n u d) ∙ derivation-passes (question q) p },
+        λ n u d. (ap (λ (x : Verdict). x .kind) (w .taken n u d .0) ∙ k, record { read = a; valid = theorem-true (question q) p; checks = ap (checking (question q)) (w .taken n u d .1) ∙ derivation-passes (question q) p }),
       )
 
   pub other-answers : (old : List ℕ) → OneOf (1 ∷ 2 ∷ 3 ∷ []) (tagOf the-type (v .kind)) → Answers q b old old (NotProved v)

@@ -44,7 +44,7 @@ pub record IsTheorem (S : Sequent) (v : Verdict) : Type 0 where
 pub record WrittenOut (S : Sequent) (v : Verdict) (old new : List ℕ) (r : Answer) : Type 0 where
   pub reply : answerOf r ≡ writeOut Theorem (v .reductions) (v .closings) (derivation S) old .reply
   pub buffer : new ≡ writeOut Theorem (v .reductions) (v .closings) (derivation S) old .buffer
-  pub taken : (n : ℕ) (u : Verdict) → r ≡ Written n u → take n new ≡ derivation S
+  pub taken : (n : ℕ) (u : Verdict) → r ≡ Written n u → (u ≡ v) × (take n new ≡ derivation S)
 
 -- "our derivation of a theorem passes the checker"
 pub record Evidence (q : List ℕ) (bytes : List ℕ) : Type 0 where

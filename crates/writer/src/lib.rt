@@ -133,7 +133,7 @@ fn write_out(q: &[u8], v: Verdict, buffer: &mut [u8]) -> Answer
 pub fn derive(q: &[u8], budget: u64, buffer: &mut [u8]) -> Answer
     ensures reply { λ r. ⌜ answerOf r ≡ derive (now (q .entry)) budget (now (buffer .entry)) .reply ⌝ }
     ensures written { λ r. ⌜ now (buffer .exit) ≡ derive (now (q .entry)) budget (now (buffer .entry)) .buffer ⌝ }
-    ensures evidence { λ r. ⌜ ((n : ℕ) (v : Verdict) → r ≡ Answer.Written n v → Evidence (now (q .entry)) (take n (now (buffer .exit)))) ⌝ }
+    ensures evidence { λ r. ⌜ ((n : ℕ) (v : Verdict) → r ≡ Answer.Written n v → (v .kind ≡ Kind.Theorem) × Evidence (now (q .entry)) (take n (now (buffer .exit)))) ⌝ }
 {
     let reading = question::read(q);
     match reading {

@@ -17,7 +17,7 @@ returns c =
     let a = c .before .before .before .before .before .before .before .before .before .args in
     let d = c .before .before .before .before .before .derive in
     let w = c .before .answer .given in
-    written-line (a .q .now) (a .buffer .now) _ (w .0 .0) (w .0 .1 .0) (d .ensures .1 .1 (w .0 .0) (w .0 .1 .0) (w .1) .read) (rw (w .1) at (d .ensures .0)) (d .ensures .1 .0)
+    written-line (a .q .now) (a .buffer .now) _ (w .0 .0) (w .0 .1 .0) (d .ensures .1 .1 (w .0 .0) (w .0 .1 .0) (w .1) .1 .read) (rw (w .1) at (d .ensures .0)) (d .ensures .1 .0)
 
 same-length-2 : tie.Need-same-length-2
 same-length-2 c = search needs
