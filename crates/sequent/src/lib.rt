@@ -2,7 +2,7 @@
 use calculus::Side;
 ghost use mathlib.Core.Path.{_≡_};
 ghost use mathlib.Core.List.{[], _++_, map};
-ghost use Prim.Native.Nat.{ℕ, _+_, _-_, _^_, _≤_, _<_};
+ghost use Prim.Native.Nat.{ℕ, _+_, _-_, _%_, _^_, _≤_, _<_};
 ghost use lib.Bits.{bitOr};
 ghost use lib.ListN.{length, take, drop, set, getD};
 ghost use Rattle.calculus.specs.Limits.{ROOM, LONGEST, LETTERS};
@@ -47,60 +47,19 @@ const L: u8 = 1;
 
 const R: u8 = 2;
 
-const NONE: Placing = Placing { f: 0, g: 0 };
-
-// The ten reductions, NOT to EQUIV, each on the left and on the right.
-const RULES: [Rule; 10] = [
-    Rule {
-        premises: 1,
-        first: Placing { f: R, g: 0 },
-        second: NONE,
-    },
-    Rule {
-        premises: 1,
-        first: Placing { f: L, g: 0 },
-        second: NONE,
-    },
-    Rule {
-        premises: 1,
-        first: Placing { f: L, g: L },
-        second: NONE,
-    },
-    Rule {
-        premises: 2,
-        first: Placing { f: R, g: 0 },
-        second: Placing { f: 0, g: R },
-    },
-    Rule {
-        premises: 2,
-        first: Placing { f: L, g: 0 },
-        second: Placing { f: 0, g: L },
-    },
-    Rule {
-        premises: 1,
-        first: Placing { f: R, g: R },
-        second: NONE,
-    },
-    Rule {
-        premises: 2,
-        first: Placing { f: 0, g: L },
-        second: Placing { f: R, g: 0 },
-    },
-    Rule {
-        premises: 1,
-        first: Placing { f: L, g: R },
-        second: NONE,
-    },
-    Rule {
-        premises: 2,
-        first: Placing { f: L, g: L },
-        second: Placing { f: R, g: R },
-    },
-    Rule {
-        premises: 2,
-        first: Placing { f: L, g: R },
-        second: Placing { f: R, g: L },
-    },
+// The ten reductions, NOT to EQUIV, each on the left and on the right. The digits of a row: its premises, then where F and G
+// go in the first and where in the second, with 1 for the left, 2 for the right and 0 for nowhere.
+const RULES: [u32; 10] = [
+    0x1_20_00,
+    0x1_10_00,
+    0x1_11_00,
+    0x2_20_02,
+    0x2_10_01,
+    0x1_22_00,
+    0x2_01_20,
+    0x1_12_00,
+    0x2_11_22,
+    0x2_12_21,
 ];
 
 fn side_code(side: Side) -> u8
@@ -112,13 +71,30 @@ fn side_code(side: Side) -> u8
     }
 }
 
+fn digit(n: u32) -> u8
+    ensures { λ r. ⌜ r ≡ n % 16 ⌝ }
+{
+    (n % 16) as u8
+}
+
 // The rule of the connective whose command is b, on a side.
 pub fn rule_of(b: u8, side: Side) -> Rule
     requires { ⌜ (2 ≤ b) × (b ≤ 6) ⌝ }
     ensures { λ r. ⌜ ((k : Connective) → code (CONNECTIVE k) ≡ b → premisesOf r ≡ map sided (table k side)) ⌝ }
 {
     let i = ((b - 2) * 2 + (side_code(side) - 1)) as usize;
-    RULES[i]
+    let row = RULES[i];
+    Rule {
+        premises: digit(row / 0x10000),
+        first: Placing {
+            f: digit(row / 0x1000),
+            g: digit(row / 0x100),
+        },
+        second: Placing {
+            f: digit(row / 0x10),
+            g: digit(row),
+        },
+    }
 }
 
 // Where the formula at a place of a side stands among the items.
