@@ -7,7 +7,7 @@ use mathlib.Core.List.{List, [], _∷_, _++_, append-assoc, append-nil}
 use Prim.Native.Nat.{ℕ, zero, suc, _+_, _-_, _^_, _≤_, _<_}
 use native.Mathlib.Nat.{add-zero, le-refl}
 use native.Mathlib.Omega.{arith}
-use lib.Bits.{bitOr, or-lt}
+use lib.Bits.{bitOr, or-zero-r, or-lt}
 use lib.Dec.{eqb}
 use lib.ListN.{length, take, drop, getElem?, length-append, length-take}
 use lib.Pow.{pow-mono}
@@ -35,7 +35,7 @@ use Rattle.sequent.proofs.Premises.{bit-whole}
 use Rattle.decider.specs.declared.Sets.{Sets}
 use Rattle.decider.specs.declared.Reduction.{Reduction}
 use Rattle.decider.specs.Names.{markOf, waiting}
-use Rattle.decider.specs.States.{kindOf, partBits, partMarks, partsWaiting, setOf, replaced, appended, Takes, Shows, Runs, Lacks, firstName, secondName, Reduces}
+use Rattle.decider.specs.States.{kindOf, partBits, partMarks, partsWaiting, setOf, premised, Takes, Shows, Runs, Makes, Lacks, firstName, secondName, Reduces}
 use Rattle.decider.proofs.Numbers.{mark-small, waiting-short}
 use Rattle.decider.proofs.Lines.{rising-wider, rising-append, rising-empty, rising-bound, rising-splice, lined-append}
 use Rattle.decider.proofs.Naming.{Fair, node-told, parts-rising, parts-lined, parts-marks}
@@ -69,9 +69,6 @@ kept-before Q R a n w h l e =
     sym (take-take a n R h) ∙ ap (take a) e ∙ take-append-le a (take a Q) w (omega (arith, length-take a Q)) ∙ take-take a a Q (le-refl a)
 
 -- ---- the premise
-
-abbrev pub premised : Side → Placing → ℕ → ℕ → Sets → Sets
-premised t p f g s = appended (other t) p f g (replaced t p f g s)
 
 premised-to : (t : Side) (p : Placing) (f g : ℕ) (s : Sets) → premised t p f g s .to ≡ s .to + length (partsWaiting (other t) p f g)
 premised-to Left p f g s = refl
@@ -156,34 +153,92 @@ module _ (T Q : List ℕ) (n i : ℕ) (x : Compound) (s : Sets) (S : Sequent) (p
       let m = rising-bound T n (n + connectives (whole x)) (partsOn Left p (x .f) (x .g)) (partBits Left p (firstName n x) (secondName n x)) (parts-rising T n x (h .told) p q Left) in
       (omega (arith, rising-bound T 0 CONNECTIVES (splice i ks (l .front)) (s .first + k) r), omega (arith, l .none, m, pow-mono {j = CONNECTIVES} (h .inside)))
 
--- the parts' names, and all that the code asks before it makes a premise
-module _ (T Q : List ℕ) (i : ℕ) (x : Compound) (S : Sequent) (d : Reduction) (h : Reduces T Q i x S d) (p : Placing) (q : Fair (x .connective) p) where
-  pub premise-asks : (d .f < LETTERS + CONNECTIVES) × (d .g < LETTERS + CONNECTIVES) × (setOf (d .side) (d .rest) + partBits (d .side) p (d .f) (d .g) < 2 ^ 64)
-      × Takes (other (d .side)) p (d .f) (d .g) (length Q) (d .rest)
-  premise-asks =
-      let t = node-told T (h .number) x (h .lacks .told) (h .lacks .inside) in
-      let w = premise-fits T Q (h .number) i x (d .rest) S p q (omega (arith, h .waits)) (d .side) (h .lacks) (omega (arith, h .waits)) in
-      rw (h .first, h .second) (t .first, t .second, w .0, w .1)
-
-  pub premise-runs : (R : List ℕ) (s : Sets) → s ≡ premised (d .side) p (d .f) (d .g) (d .rest) → take (s .to) R ≡ take (d .rest .to) Q ++ partsWaiting (other (d .side)) p (d .f) (d .g)
-      → length R ≡ length Q → size (premiseOf p) ≡ size (premiseOf (d .rule .first)) → Smaller S (premiseBy (d .side) i x S p) → Runs T R s (premiseBy (d .side) i x S p)
-  premise-runs R s e k l z w =
-      let n = h .number in
-      let t = d .side in
-      let r = premised t p (firstName n x) (secondName n x) (d .rest) in
-      let u : s ≡ r = e ∙ rw (h .first, h .second) in
-      let o : take (r .to) R ≡ take (d .rest .to) Q ++ partsWaiting (other t) p (firstName n x) (secondName n x) = rw (u, h .first, h .second) at k in
-      let a = element-inside (on-side t S) i (whole x) (h .lacks .due) in
-      let m : d .rest .size ≡ size (premiseBy t i x S p) = omega (arith, h .size, premise-size t i x S p a) in
-      let j = premised-connectives t p (firstName n x) (secondName n x) (d .rest) in
-      rw u (record {
-        shows = premise-shows T Q n i x (d .rest) S p q (omega (arith, h .waits)) t (h .lacks) R o m;
+-- a premise of a reduction is in the making
+premise-makes : (T Q : List ℕ) (i : ℕ) (x : Compound) (S : Sequent) (d : Reduction) → Reduces T Q i x S d → (p : Placing) → Fair (x .connective) p
+    → size (premiseOf p) ≡ size (premiseOf (d .rule .first)) → Smaller S (premiseBy (d .side) i x S p) → Makes T Q (d .rest) (d .side) p (d .f) (d .g) (premiseBy (d .side) i x S p)
+premise-makes T Q i x S d h p q z w =
+    let n = h .number in
+    let t = d .side in
+    let o = node-told T n x (h .lacks .told) (h .lacks .inside) in
+    let u = premise-fits T Q n i x (d .rest) S p q (omega (arith, h .waits)) t (h .lacks) (omega (arith, h .waits)) in
+    let a = element-inside (on-side t S) i (whole x) (h .lacks .due) in
+    let m : d .rest .size ≡ size (premiseBy t i x S p) = omega (arith, h .size, premise-size t i x S p a) in
+    let j = premised-connectives t p (firstName n x) (secondName n x) (d .rest) in
+    rw (h .first, h .second) (record {
+      first = o .first;
+      second = o .second;
+      fits = u .0;
+      takes = u .1;
+      long = omega (arith, h .waits);
+      few = omega (arith, w .0, h .count, h .small);
+      runs = λ R k l. record {
+        shows = premise-shows T Q n i x (d .rest) S p q (omega (arith, h .waits)) t (h .lacks) R k m;
         nodes = h .nodes;
         count = omega (arith, w .0, h .count, j);
         small = omega (arith, h .small, j);
-        waits = omega (arith, h .waits, j, premised-to t p (firstName n x) (secondName n x) (d .rest), few-wait (other t) p (firstName n x) (secondName n x));
+        waits = omega (arith, l, h .waits, j, premised-to t p (firstName n x) (secondName n x) (d .rest), few-wait (other t) p (firstName n x) (secondName n x));
         room = omega (arith, h .room, premised-size t p (firstName n x) (secondName n x) (d .rest));
-      })
+      };
+    })
+
+-- where nothing is placed, the sequent stays
+abbrev NOTHING : Placing
+NOTHING = record { f = 0; g = 0 }
+
+nothing-placed : (s : Sets) → premised Right NOTHING 0 0 s ≡ s
+nothing-placed s = λ j. record {
+  left = add-zero (s .left) j;
+  first = add-zero (s .first) j;
+  leftmask = or-zero-r (s .leftmask) j;
+  rightmask = or-zero-r (s .rightmask) j;
+  from = s .from;
+  to = s .to;
+  size = s .size;
+  connectives = s .connectives;
+}
+
+pub root-makes : (T Q : List ℕ) (s : Sets) (S : Sequent) → Runs T Q s S → Makes T Q s Right NOTHING 0 0 S
+root-makes T Q s S h =
+    let v = h .shows in
+    record {
+      first = omega arith;
+      second = omega arith;
+      fits = omega (arith, rising-bound T 0 CONNECTIVES (v .front) (s .first) (v .first));
+      takes = omega (arith, rising-bound T 0 CONNECTIVES (S .on-left) (s .left) (v .left));
+      long = omega (arith, h .waits);
+      few = omega (arith, h .count, h .small);
+      runs = λ R k l.
+          let e : take (s .to) R ≡ take (s .to) Q = k ∙ append-nil (take (s .to) Q) in
+          rw (nothing-placed s) (record {
+            shows = record {
+              left = v .left;
+              front = v .front;
+              back = v .back;
+              right = v .right;
+              first = v .first;
+              queue = rw e (v .queue);
+              leftmask = v .leftmask;
+              rightmask = v .rightmask;
+              lit = v .lit;
+              size = v .size;
+              order = v .order;
+            };
+            nodes = h .nodes;
+            count = h .count;
+            small = h .small;
+            waits = omega (arith, l, h .waits);
+            room = h .room;
+          });
+    }
+
+pub makes-runs : (T Q : List ℕ) (r : Sets) (t : Side) (p : Placing) (f g : ℕ) (S : Sequent) → Makes T Q r t p f g S → (R : List ℕ) (s : Sets) → s ≡ premised t p f g r
+    → take (s .to) R ≡ take (r .to) Q ++ partsWaiting (other t) p f g → length R ≡ length Q → Runs T R s S
+makes-runs T Q r t p f g S h R s e k l = rw e (h .runs R (rw e at k) l)
+
+pub makes-kept : (T Q : List ℕ) (r : Sets) (t : Side) (p : Placing) (f g : ℕ) (S : Sequent) → Makes T Q r t p f g S → (R P : List ℕ) (s : Sets) → s ≡ premised t p f g r
+    → take (s .to) R ≡ take (r .to) Q ++ partsWaiting (other t) p f g → take (s .to) P ≡ take (s .to) R → take (r .to) P ≡ take (r .to) Q
+makes-kept T Q r t p f g S h R P s e k l =
+    kept-before Q P (r .to) (s .to) (partsWaiting (other t) p f g) (omega (arith, ap (λ (v : Sets). v .to) e, premised-to t p f g r)) (h .long) (l ∙ k)
 
 -- the queue's places before its end are all that matters
 lacks-kept : (t : Side) (T Q R : List ℕ) (n i : ℕ) (x : Compound) (s : Sets) (S : Sequent) → take (s .to) R ≡ take (s .to) Q → Lacks t T CONNECTIVES Q n i x s S
@@ -278,33 +333,15 @@ module _ (T Q : List ℕ) (i : ℕ) (x : Compound) (S : Sequent) (d : Reduction)
   two : d .rule .premises ≡ 2 → premises (d .side) i x S ≡ premiseBy (d .side) i x S (d .rule .first) ∷ premiseBy (d .side) i x S (d .rule .second) ∷ []
   two e = premises-by (d .side) i x S (d .rule) (h .rows) ∙ rw (eq-eqb (d .rule .premises) 2 e)
 
-  pub first-runs : (R : List ℕ) (s : Sets) → s ≡ premised (d .side) (d .rule .first) (d .f) (d .g) (d .rest)
-      → take (s .to) R ≡ take (d .rest .to) Q ++ partsWaiting (other (d .side)) (d .rule .first) (d .f) (d .g) → length R ≡ length Q → Runs T R s (premiseBy (d .side) i x S (d .rule .first))
-  first-runs R s e k l =
+  pub first-makes : Makes T Q (d .rest) (d .side) (d .rule .first) (d .f) (d .g) (premiseBy (d .side) i x S (d .rule .first))
+  first-makes =
       let w = rw (premises-by (d .side) i x S (d .rule) (h .rows)) at (smaller (d .side) i x S (h .lacks .due)) in
-      premise-runs T Q i x S d h (d .rule .first) (rule .first) R s e k l refl (w .0)
+      premise-makes T Q i x S d h (d .rule .first) (rule .first) refl (w .0)
 
-  pub second-runs : d .rule .premises ≡ 2 → (R : List ℕ) (s : Sets) → s ≡ premised (d .side) (d .rule .second) (d .f) (d .g) (d .rest)
-      → take (s .to) R ≡ take (d .rest .to) Q ++ partsWaiting (other (d .side)) (d .rule .second) (d .f) (d .g) → length R ≡ length Q → Runs T R s (premiseBy (d .side) i x S (d .rule .second))
-  second-runs a R s e k l =
+  pub second-makes : d .rule .premises ≡ 2 → Makes T Q (d .rest) (d .side) (d .rule .second) (d .f) (d .g) (premiseBy (d .side) i x S (d .rule .second))
+  second-makes a =
       let w = rw (two a) at (smaller (d .side) i x S (h .lacks .due)) in
-      premise-runs T Q i x S d h (d .rule .second) (rule .second a) R s e k l (rule .size a) (w .1 .0)
-
-  pub premise-kept : (p : Placing) (R P : List ℕ) (s : Sets) → s ≡ premised (d .side) p (d .f) (d .g) (d .rest)
-      → take (s .to) R ≡ take (d .rest .to) Q ++ partsWaiting (other (d .side)) p (d .f) (d .g) → take (s .to) P ≡ take (s .to) R → take (d .rest .to) P ≡ take (d .rest .to) Q
-  premise-kept p R P s e k l =
-      kept-before Q P (d .rest .to) (s .to) (partsWaiting (other (d .side)) p (d .f) (d .g))
-      (omega (arith, ap (λ (v : Sets). v .to) e, premised-to (d .side) p (d .f) (d .g) (d .rest)))
-      (omega (arith, h .waits)) (l ∙ k)
-
-  pub first-asks : (d .f < LETTERS + CONNECTIVES) × (d .g < LETTERS + CONNECTIVES) × (setOf (d .side) (d .rest) + partBits (d .side) (d .rule .first) (d .f) (d .g) < 2 ^ 64)
-      × Takes (other (d .side)) (d .rule .first) (d .f) (d .g) (length Q) (d .rest)
-  first-asks = premise-asks T Q i x S d h (d .rule .first) (rule .first)
-
-  pub second-asks : d .rule .premises ≡ 2
-      → (d .f < LETTERS + CONNECTIVES) × (d .g < LETTERS + CONNECTIVES) × (setOf (d .side) (d .rest) + partBits (d .side) (d .rule .second) (d .f) (d .g) < 2 ^ 64)
-      × Takes (other (d .side)) (d .rule .second) (d .f) (d .g) (length Q) (d .rest)
-  second-asks a = premise-asks T Q i x S d h (d .rule .second) (rule .second a)
+      premise-makes T Q i x S d h (d .rule .second) (rule .second a) (rule .size a) (w .1 .0)
 
   module _ (b : ℕ) (o : Outcome) (e : o ≡ outcome b (premiseBy (d .side) i x S (d .rule .first))) where
     pub pass-one : (d .rule .premises ≡ 2 → ⊥) → o ≡ pass outcome b (premises (d .side) i x S)

@@ -14,7 +14,7 @@ use Rattle.calculus.specs.declared.Kind.the-variants.{Theorem, Refuted, Spent a
 use Rattle.calculus.specs.declared.Outcome.{Outcome}
 use Rattle.calculus.specs.Fold.{choose}
 use Rattle.calculus.specs.Limits.{ROOM, LETTERS, CONNECTIVES}
-use Rattle.calculus.specs.Syntax.{Connective, NOT, two, Formula, Compound, whole, Sequent, on-side, connectives, c, size}
+use Rattle.calculus.specs.Syntax.{other, Connective, NOT, two, Formula, Compound, whole, Sequent, on-side, connectives, c, size}
 use Rattle.calculus.specs.Bytes.{CONNECTIVE, code}
 use Rattle.calculus.specs.Table.{table}
 use Rattle.calculus.specs.Tree.{letters, state, first, isClosed, isOpen, isFull, isSpent, isDue, inner}
@@ -87,6 +87,10 @@ appended Right p f g s =
       size = s .size;
       connectives = s .connectives;
     }
+
+-- a premise: the parts that keep their side take the place, the others go to the end
+abbrev pub premised : Side → Placing → ℕ → ℕ → Sets → Sets
+premised t p f g s = appended (other t) p f g (replaced t p f g s)
 
 -- there is room for them at a side's end
 abbrev pub Takes : Side → Placing → ℕ → ℕ → ℕ → Sets → Type 0
@@ -163,6 +167,18 @@ pub record Runs (T Q : List ℕ) (s : Sets) (S : Sequent) : Type 0 where
   pub small : s .connectives ≤ CONNECTIVES
   pub waits : s .to + 2 * s .connectives ≤ length Q
   pub room : s .size ≤ ROOM
+
+-- ---- a premise in the making
+
+-- the parts f and g go to the state as p says, and what comes of it runs S
+pub record Makes (T Q : List ℕ) (s : Sets) (t : Side) (p : Placing) (f g : ℕ) (S : Sequent) : Type 0 where
+  pub first : f < LETTERS + CONNECTIVES
+  pub second : g < LETTERS + CONNECTIVES
+  pub fits : setOf t s + partBits t p f g < 2 ^ 64
+  pub takes : Takes (other t) p f g (length Q) s
+  pub long : s .to ≤ length Q
+  pub few : c S ≤ CONNECTIVES
+  pub runs : (R : List ℕ) → take (premised t p f g s .to) R ≡ take (s .to) Q ++ partsWaiting (other t) p f g → length R ≡ length Q → Runs T R (premised t p f g s) S
 
 -- ---- the reduction that is due
 

@@ -18,7 +18,7 @@ ghost use Rattle.question.specs.Positions.{Well, formulaAt, endOf};
 ghost use Rattle.sequent.specs.Rule.{sideCode, premiseOf};
 ghost use Rattle.decider.specs.Names.{name, node, bitOf, markOf, waiting};
 ghost use Rattle.decider.specs.Loads.{named, Numbered, Loads, Enters, entered, upTo};
-ghost use Rattle.decider.specs.States.{kindOf, outcomeOf, partBits, partMarks, partsWaiting, setOf, replaced, appended, fetched, lowest, dueIn, placedOf, Takes, Reducing, Runs, Reduces, Took};
+ghost use Rattle.decider.specs.States.{kindOf, outcomeOf, partBits, partMarks, partsWaiting, setOf, replaced, appended, premised, fetched, lowest, dueIn, placedOf, Takes, Makes, Reducing, Runs, Reduces, Took};
 
 // The connectives of a question are numbered in the order of its bytes, and a compound formula is named by its connective.
 // `left` and `first` are sets of such numbers: the left side, and what is left of the right formula under reduction. The
@@ -250,7 +250,7 @@ impl Sets {
     // A premise: the parts that keep their side take the place of the formula that was due, the others go to the end.
     fn premise(self, queue: &mut [u8], side: Side, p: Placing, f: u8, g: u8) -> Sets
         requires { ⌜ (f < LETTERS + CONNECTIVES) × (g < LETTERS + CONNECTIVES) × (setOf side self + partBits side p f g < 2 ^ 64) × Takes (other side) p f g (length (now queue)) self ⌝ }
-        ensures { λ r. ⌜ (r ≡ appended (other side) p f g (replaced side p f g self)) × (take (r .to) (now (queue .exit)) ≡ take (self .to) (now (queue .entry)) ++ partsWaiting (other side) p f g) ⌝ }
+        ensures { λ r. ⌜ (r ≡ premised side p f g self) × (take (r .to) (now (queue .exit)) ≡ take (self .to) (now (queue .entry)) ++ partsWaiting (other side) p f g) ⌝ }
     {
         let away = side.other();
         self.replace(side, p, f, g).append(queue, away, p, f, g)
@@ -305,11 +305,21 @@ pub struct Tally {
     pub closings: u64,
 }
 
-// What a running sequent comes to, with the reductions left going in and coming out.
-fn run(nodes: &[u32], queue: &mut [u8], s: Sets, left: u64) -> Tally
-    requires { ⌜ ((S : Sequent) × Runs (now nodes) (now queue) s S) ⌝ }
-    ensures { λ r. ⌜ ((S : Sequent) → Runs (now (nodes .entry)) (now (queue .entry)) s S → outcomeOf r ≡ outcome left S) × (take (s .to) (now (queue .exit)) ≡ take (s .to) (now (queue .entry))) × (r .ending < 3 + 2 ^ LETTERS) ⌝ }
+// What a premise comes to, with the reductions left going in and coming out: the parts f and g go to `rest` as p says.
+fn run(
+    nodes: &[u32],
+    queue: &mut [u8],
+    rest: Sets,
+    side: Side,
+    p: Placing,
+    f: u8,
+    g: u8,
+    left: u64,
+) -> Tally
+    requires { ⌜ ((S : Sequent) × Makes (now nodes) (now queue) rest side p f g S) ⌝ }
+    ensures { λ r. ⌜ ((S : Sequent) → Makes (now (nodes .entry)) (now (queue .entry)) rest side p f g S → outcomeOf r ≡ outcome left S) × (take (rest .to) (now (queue .exit)) ≡ take (rest .to) (now (queue .entry))) × (r .ending < 3 + 2 ^ LETTERS) ⌝ }
 {
+    let s = rest.premise(queue, side, p, f, g);
     let answer = s.step(nodes, queue, left);
     match answer {
         Answer::Closed => Tally {
@@ -344,16 +354,14 @@ fn run_premises(nodes: &[u32], queue: &mut [u8], d: Reduction, left: u64) -> Tal
     let side = d.side;
     let rule = d.rule;
     let rest = d.rest;
-    let p = rest.premise(queue, side, rule.first, d.f, d.g);
-    let o = run(nodes, queue, p, left);
+    let o = run(nodes, queue, rest, side, rule.first, d.f, d.g, left);
     if rule.premises != 2 {
         return o;
     }
     if o.ending != 0 {
         return o;
     }
-    let p = rest.premise(queue, side, rule.second, d.f, d.g);
-    let v = run(nodes, queue, p, o.unspent);
+    let v = run(nodes, queue, rest, side, rule.second, d.f, d.g, o.unspent);
     joined(o, v)
 }
 
@@ -407,6 +415,8 @@ const EMPTY: Sets = Sets {
     size: 0,
     connectives: 48,
 };
+
+const NOTHING: Placing = Placing { f: 0, g: 0 };
 
 fn node(b: u8, f: u8, g: u8) -> u32
     ensures { λ r. ⌜ r ≡ node b f g ⌝ }
@@ -507,7 +517,7 @@ pub fn run_question(q: &[u8], budget: u64) -> Outcome
     };
     let all = load(q, &mut nodes, &mut queue, Side::Right, between);
     let s = all.sets;
-    let t = run(&nodes, &mut queue, s, budget);
+    let t = run(&nodes, &mut queue, s, Side::Right, NOTHING, 0, 0, budget);
     Outcome {
         kind: kind(t.ending),
         unspent: t.unspent,

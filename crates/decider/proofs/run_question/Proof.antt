@@ -5,14 +5,18 @@ use borrow.Author.Needs.{needs}
 use Rattle.calculus.specs.declared.Side.the-variants.{Right}
 use Rattle.calculus.specs.Bytes.{question}
 use Rattle.question.proofs.Questions.{side-inside}
-use Rattle.decider.specs.States.{Runs}
+use Rattle.decider.specs.States.{Makes}
+use Rattle.decider.proofs.Passes.{root-makes}
 use Rattle.decider.proofs.Entering.{load-start, right-starts, between, all-run}
 use Rattle.decider.proofs.run_question.Statement.{statement}
 use Rattle.decider.proofs.run_question.Tie as tie
 
--- the sets of the whole question
-whole-now : (c : tie.After-load2) → Runs (c .load2 .last .1 .0) (c .load2 .last .1 .1 .0) (c .load2 .result .sets) (question (c .before .before .before .before .before .before .before .before .before .before .before .args .q .now))
-whole-now c = all-run (c .before .before .before .before .before .before .before .before .before .before .before .args .q .now) (c .before .before .before .before .before .before .before .before .before .before .before .pre) (c .load2 .last .1 .0) (c .load2 .last .1 .1 .0) (c .load2 .result) (c .load2 .ensures .0)
+-- the whole question is in the making
+whole-now : (c : tie.After-load2) → let l = c .load2 in Makes (l .last .1 .0) (l .last .1 .1 .0) (l .result .sets) Right (record { f = 0; g = 0 }) 0 0 (question (c .before .before .before .before .before .before .before .before .before .before .before .args .q .now))
+whole-now c =
+    let s = c .before .before .before .before .before .before .before .before .before .before .before in
+    let l = c .load2 in
+    root-makes (l .last .1 .0) (l .last .1 .1 .0) (l .result .sets) (question (s .args .q .now)) (all-run (s .args .q .now) (s .pre) (l .last .1 .0) (l .last .1 .1 .0) (l .result) (l .ensures .0))
 
 pub run-question-spec : {M : Type 1} → statement M
 run-question-spec =
