@@ -1,9 +1,11 @@
 -- Document 01's number and place of each answer of the reader.
-use Prim.Native.Nat.{ℕ, suc, _+_, _≤_}
-use Rattle.calculus.specs.declared.Expected.{Expected}
-use Rattle.calculus.specs.declared.Expected.the-variants.{Head, Count, Formula, Operand, End}
-use Rattle.calculus.specs.Limits.{LONGEST, TOO-LONG, CUT, WRONG-COMMAND, MANY-FORMULAS, NO-SUCH-LETTER, MANY-CONNECTIVES, LEFT-OVER}
-use Rattle.calculus.specs.Reading.{Onward, refuse, onward, Reading as Result, accepted, refused}
+use mathlib.Core.List.{List}
+use Prim.Native.Nat.{ℕ, _+_, _-_, _≤_}
+use lib.ListN.{length, drop}
+use Rattle.calculus.specs.declared.Side.{Side}
+use Rattle.calculus.specs.Limits.{LONGEST, FORMULAS, CONNECTIVES, TOO-LONG, CUT, WRONG-COMMAND, MANY-FORMULAS, NO-SUCH-LETTER, MANY-CONNECTIVES, LEFT-OVER}
+use Rattle.calculus.specs.Reading.{Reading as Result, accepted, refused, after, begin, goOn, read}
+use Rattle.calculus.specs.Bytes.{command}
 use Rattle.question.specs.declared.Refusal.{Refusal}
 use Rattle.question.specs.declared.Refusal.the-variants.{TooLong, Cut, WrongCommand, ManyFormulas, NoSuchLetter, ManyConnectives, LeftOver}
 use Rattle.question.specs.declared.Reading.{Reading}
@@ -34,26 +36,31 @@ abbrev pub readingOf : Reading → Result
 readingOf Accepted = accepted
 readingOf (Refused r) = refused (numberOf r) (placeOf r)
 
--- ---- one byte
+-- ---- from a cursor on
 
--- a refusal's number and place, or what is expected then, the connectives so far and the place
-pub data Moved : Type 0 where
-  stopped : ℕ → ℕ → Moved
-  moved : Expected → ℕ → ℕ → Moved
+-- a cursor in a question that is not too long
+abbrev pub Within : List ℕ → Cursor → Type 0
+Within q k = (length q ≤ LONGEST) × (k .at ≤ length q) × (k .due ≤ FORMULAS + k .connectives) × (k .connectives ≤ CONNECTIVES)
 
-abbrev pub movedBy : Step → Moved
-movedBy (Next k) = moved (k .expected) (k .connectives) (k .at)
-movedBy (Stop r) = stopped (numberOf r) (placeOf r)
+-- a next cursor is one, and not before a place
+abbrev pub Onwards : List ℕ → ℕ → Step → Type 0
+Onwards q at (Next k) = Within q k × (at ≤ k .at)
+Onwards q at (Stop r) = Unit {0}
 
--- what document 01's reader does with the byte at a place
-abbrev pub moves : ℕ → Onward → Moved
-moves at (refuse n) = stopped n at
-moves at (onward e c) = moved e c (at + 1)
+-- the reading from a cursor on, its formulas being those of side s
+abbrev pub readFrom : List ℕ → Side → Cursor → Result
+readFrom q s k = read (drop (k .at) q) (after s (k .due)) (k .connectives) (k .at)
 
--- the formulas still due after the one that is expected
-abbrev pub dueIn : Expected → ℕ
-dueIn (Head s) = 0
-dueIn (Count s) = 0
-dueIn (Formula s n) = n
-dueIn (Operand s n) = n
-dueIn End = 0
+-- the reading after a step
+abbrev pub steps : List ℕ → Side → Step → Result
+steps q s (Next k) = readFrom q s k
+steps q s (Stop r) = refused (numberOf r) (placeOf r)
+
+-- the reading after a formula's command b at a cursor
+abbrev pub begun : List ℕ → Side → Cursor → ℕ → Result
+begun q s k b = goOn (begin (command b) s (k .due - 1) (k .connectives)) (k .at) (λ e c. read (drop (k .at + 1) q) e c (k .at + 1))
+
+-- the reading after the formulas of side s
+abbrev pub passes : List ℕ → Side → Step → Result
+passes q s (Next k) = read (drop (k .at) q) (after s 0) (k .connectives) (k .at)
+passes q s (Stop r) = refused (numberOf r) (placeOf r)

@@ -3,14 +3,15 @@ use calculus::Expected;
 use calculus::Part;
 use calculus::Side;
 ghost use mathlib.Core.Path.{_≡_};
-ghost use Prim.Native.Nat.{ℕ, _+_, _^_, _≤_, _<_};
+ghost use Prim.Native.Nat.{ℕ, _+_, _-_, _^_, _≤_, _<_};
+ghost use mathlib.Core.List.{List};
 ghost use lib.ListN.{length, take, drop};
 ghost use Rattle.calculus.specs.Limits.{LONGEST, FORMULAS};
 ghost use Rattle.calculus.specs.Syntax.{on-side};
-ghost use Rattle.calculus.specs.Bytes.{SIDE, code, command, formulas, bytesAll, question, sideStart};
-ghost use Rattle.calculus.specs.Reading.{after, begin, advance, ended, accepted, reading};
+ghost use Rattle.calculus.specs.Bytes.{SIDE, code, formulas, bytesAll, question, sideStart};
+ghost use Rattle.calculus.specs.Reading.{read, accepted, reading};
 ghost use Rattle.calculus.specs.Reply.{formulaPart, formulaBytes};
-ghost use Rattle.question.specs.Answers.{numberOf, placeOf, readingOf, moved, movedBy, moves, dueIn};
+ghost use Rattle.question.specs.Answers.{numberOf, placeOf, readingOf, begun, Within, Onwards, readFrom, steps, passes};
 ghost use Rattle.question.specs.Positions.{Well, endOf, commandLength, dueAfter, partBytes};
 
 // The limits of document 01.
@@ -20,7 +21,7 @@ pub const MOST_FORMULAS: u8 = 16;
 
 pub const LETTERS: u8 = 32;
 
-pub const MOST_CONNECTIVES: usize = 48;
+pub const MOST_CONNECTIVES: u8 = 48;
 
 // Why a question is refused, and the place.
 pub enum Refusal {
@@ -70,29 +71,16 @@ pub enum Reading {
     Refused(Refusal),
 }
 
-// Where the reader is: the place of the next byte, what is expected there, and the connectives so far.
+// Where the reader is: the connectives so far, the place of the next byte, and the formulas of the side that are due there.
 pub struct Cursor {
+    pub connectives: u8,
     pub at: usize,
-    pub expected: Expected,
-    pub connectives: usize,
+    pub due: u8,
 }
 
 pub enum Step {
     Next(Cursor),
     Stop(Refusal),
-}
-
-// What is expected where n formulas of a side are still due.
-fn after(side: Side, n: usize) -> Expected
-    ensures { λ r. ⌜ r ≡ after side n ⌝ }
-{
-    if 0 < n {
-        return Expected::Formula(side, n - 1);
-    }
-    match side {
-        Side::Left => Expected::Head(Side::Right),
-        Side::Right => Expected::End,
-    }
 }
 
 // The command byte of a side.
@@ -106,93 +94,136 @@ fn head_of(side: Side) -> u8
 }
 
 impl Cursor {
-    pub fn start() -> Cursor
-        ensures { λ r. ⌜ (r .at ≡ 0) × (r .expected ≡ Expected.Head Side.Left) × (r .connectives ≡ 0) ⌝ }
+    // The operand of the letter at the cursor.
+    fn letter(self, q: &[u8]) -> Step
+        requires { ⌜ Within (now q) self × (self .at < length (now q)) × (1 ≤ self .due) ⌝ }
+        ensures { λ r. ⌜ ((s : Side) → steps (now (q .entry)) s r ≡ read (drop (self .at + 1) (now (q .entry))) (Expected.Operand s (self .due - 1)) (self .connectives) (self .at + 1)) × Onwards (now (q .entry)) (self .at + 1) r ⌝ }
     {
-        Cursor {
-            at: 0,
-            expected: Expected::Head(Side::Left),
-            connectives: 0,
+        let operand = self.at + 1;
+        if q.len() <= operand {
+            return Step::Stop(Refusal::Cut(operand));
         }
-    }
-
-    // Past this byte.
-    fn next(self, expected: Expected, connectives: usize) -> Step
-        requires { ⌜ self .at ≤ LONGEST ⌝ }
-        ensures { λ r. ⌜ movedBy r ≡ moved expected connectives (self .at + 1) ⌝ }
-    {
+        if LETTERS <= q[operand] {
+            return Step::Stop(Refusal::NoSuchLetter(operand));
+        }
         Step::Next(Cursor {
-            at: self.at + 1,
-            expected: expected,
-            connectives: connectives,
+            connectives: self.connectives,
+            at: operand + 1,
+            due: self.due - 1,
         })
     }
 
-    // A connective of a formula on a side, with n more formulas due after that one.
-    fn connective(self, side: Side, n: usize, b: u8) -> Step
-        requires { ⌜ (self .at ≤ LONGEST) × (n ≤ FORMULAS + self .at) × (2 ≤ b) × (b ≤ 6) ⌝ }
-        ensures { λ r. ⌜ movedBy r ≡ moves (self .at) (begin (command b) side n (self .connectives)) ⌝ }
+    // The connective b at the cursor.
+    fn connective(self, b: u8) -> Step
+        requires { ⌜ (self .at ≤ LONGEST) × (1 ≤ self .due) × (self .due ≤ FORMULAS + self .connectives) × (2 ≤ b) × (b ≤ 6) ⌝ }
+        ensures { λ r. ⌜ ((q : List ℕ) (s : Side) → steps q s r ≡ begun q s self b) × ((q : List ℕ) → Within q self → self .at < length q → Onwards q (self .at + 1) r) ⌝ }
     {
-        let c = self.connectives;
-        if MOST_CONNECTIVES <= c {
+        let behind = self.at + 1;
+        if MOST_CONNECTIVES <= self.connectives {
             return Step::Stop(Refusal::ManyConnectives(self.at));
         }
-        if b == 2 {
-            return self.next(Expected::Formula(side, n), c + 1);
-        }
-        self.next(Expected::Formula(side, n + 1), c + 1)
+        Step::Next(Cursor {
+            connectives: self.connectives + 1,
+            at: behind,
+            due: if b == 2 { self.due } else { self.due + 1 },
+        })
     }
 
-    // The command of a formula on a side, with n more formulas due after that one.
-    fn formula(self, side: Side, n: usize, b: u8) -> Step
-        requires { ⌜ (self .at ≤ LONGEST) × (n ≤ FORMULAS + self .at) ⌝ }
-        ensures { λ r. ⌜ movedBy r ≡ moves (self .at) (begin (command b) side n (self .connectives)) ⌝ }
+    // A formula is expected: the command at the cursor, with a letter's operand, gives a refusal or the next cursor.
+    fn formula(self, q: &[u8]) -> Step
+        requires { ⌜ Within (now q) self × (1 ≤ self .due) ⌝ }
+        ensures { λ r. ⌜ ((s : Side) → steps (now (q .entry)) s r ≡ readFrom (now (q .entry)) s self) × Onwards (now (q .entry)) (self .at + 1) r ⌝ }
     {
+        let at = self.at;
+        if q.len() <= at {
+            return Step::Stop(Refusal::Cut(at));
+        }
+        let b = q[at];
         match b {
-            1 => self.next(Expected::Operand(side, n), self.connectives),
-            2..=6 => self.connective(side, n, b),
-            _ => Step::Stop(Refusal::WrongCommand(self.at)),
+            1 => self.letter(q),
+            2..=6 => self.connective(b),
+            _ => Step::Stop(Refusal::WrongCommand(at)),
         }
     }
 
-    // The byte b at the cursor: a refusal, or the next cursor.
-    pub fn step(self, b: u8) -> Step
-        requires { ⌜ (self .at ≤ LONGEST) × (dueIn (self .expected) ≤ FORMULAS + self .at) ⌝ }
-        ensures { λ r. ⌜ movedBy r ≡ moves (self .at) (advance (self .expected) (self .connectives) b) ⌝ }
+    // A side is expected: its command and its count.
+    fn head(self, q: &[u8], side: Side) -> Step
+        requires { ⌜ Within (now q) self ⌝ }
+        ensures { λ r. ⌜ (steps (now (q .entry)) side r ≡ read (drop (self .at) (now (q .entry))) (Expected.Head side) (self .connectives) (self .at)) × Onwards (now (q .entry)) 0 r ⌝ }
     {
-        let expected = self.expected;
-        match expected {
-            Expected::Head(side) => {
-                if b == head_of(side) {
-                    return self.next(Expected::Count(side), self.connectives);
+        let at = self.at;
+        if q.len() <= at {
+            return Step::Stop(Refusal::Cut(at));
+        }
+        if q[at] != head_of(side) {
+            return Step::Stop(Refusal::WrongCommand(at));
+        }
+        let count = at + 1;
+        if q.len() <= count {
+            return Step::Stop(Refusal::Cut(count));
+        }
+        if MOST_FORMULAS < q[count] {
+            return Step::Stop(Refusal::ManyFormulas(count));
+        }
+        Step::Next(Cursor {
+            connectives: self.connectives,
+            at: count + 1,
+            due: q[count],
+        })
+    }
+
+    // All formulas that are due.
+    fn formulas(self, q: &[u8]) -> Step
+        requires { ⌜ Within (now q) self ⌝ }
+        ensures { λ r. ⌜ ((s : Side) → passes (now (q .entry)) s r ≡ readFrom (now (q .entry)) s self) × Onwards (now (q .entry)) 0 r ⌝ }
+    {
+        let mut cursor = self;
+        while 0 < cursor.due {
+            let step = cursor.formula(q);
+            match step {
+                Step::Next(c) => {
+                    cursor = c;
                 }
-                Step::Stop(Refusal::WrongCommand(self.at))
-            }
-            Expected::Count(side) => {
-                if b <= MOST_FORMULAS {
-                    return self.next(after(side, wide(b)), self.connectives);
+                Step::Stop(r) => {
+                    return Step::Stop(r);
                 }
-                Step::Stop(Refusal::ManyFormulas(self.at))
             }
-            Expected::Formula(side, n) => self.formula(side, n, b),
-            Expected::Operand(side, n) => {
-                if b < LETTERS {
-                    return self.next(after(side, n), self.connectives);
-                }
-                Step::Stop(Refusal::NoSuchLetter(self.at))
-            }
-            Expected::End => Step::Stop(Refusal::LeftOver(self.at)),
+        }
+        Step::Next(cursor)
+    }
+
+    // A side with its formulas.
+    fn side(self, q: &[u8], side: Side) -> Step
+        requires { ⌜ Within (now q) self ⌝ }
+        ensures { λ r. ⌜ (passes (now (q .entry)) side r ≡ read (drop (self .at) (now (q .entry))) (Expected.Head side) (self .connectives) (self .at)) × Onwards (now (q .entry)) 0 r ⌝ }
+    {
+        let step = self.head(q, side);
+        match step {
+            Step::Next(c) => c.formulas(q),
+            Step::Stop(r) => Step::Stop(r),
         }
     }
 
-    // The end of the bytes.
-    pub fn end(self) -> Reading
-        ensures { λ r. ⌜ readingOf r ≡ ended (self .expected) (self .at) ⌝ }
+    // The end is expected.
+    fn end(self, q: &[u8]) -> Reading
+        requires { ⌜ Within (now q) self ⌝ }
+        ensures { λ r. ⌜ readingOf r ≡ read (drop (self .at) (now (q .entry))) Expected.End (self .connectives) (self .at) ⌝ }
     {
-        let expected = self.expected;
-        match expected {
-            Expected::End => Reading::Accepted,
-            _ => Reading::Refused(Refusal::Cut(self.at)),
+        if self.at < q.len() {
+            return Reading::Refused(Refusal::LeftOver(self.at));
+        }
+        Reading::Accepted
+    }
+
+    // The right side is expected, then the end.
+    fn right_side(self, q: &[u8]) -> Reading
+        requires { ⌜ Within (now q) self ⌝ }
+        ensures { λ r. ⌜ readingOf r ≡ read (drop (self .at) (now (q .entry))) (Expected.Head Side.Right) (self .connectives) (self .at) ⌝ }
+    {
+        let step = self.side(q, Side::Right);
+        match step {
+            Step::Next(c) => c.end(q),
+            Step::Stop(r) => Reading::Refused(r),
         }
     }
 }
@@ -210,20 +241,16 @@ pub fn read(q: &[u8]) -> Reading
     if LONGEST_QUESTION < q.len() {
         return Reading::Refused(Refusal::TooLong);
     }
-    let mut cursor = Cursor::start();
-    while cursor.at < q.len() {
-        let at = cursor.at;
-        let step = cursor.step(q[at]);
-        match step {
-            Step::Next(c) => {
-                cursor = c;
-            }
-            Step::Stop(r) => {
-                return Reading::Refused(r);
-            }
-        }
+    let start = Cursor {
+        connectives: 0,
+        at: 0,
+        due: 0,
+    };
+    let step = start.side(q, Side::Left);
+    match step {
+        Step::Next(c) => c.right_side(q),
+        Step::Stop(r) => Reading::Refused(r),
     }
-    cursor.end()
 }
 
 fn command_length(b: u8) -> usize
