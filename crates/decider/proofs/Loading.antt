@@ -5,7 +5,7 @@ use mathlib.Core.List.{List}
 use Prim.Native.Nat.{ℕ, _+_, _-_, _≤_, _<_}
 use native.Mathlib.Nat.{add-zero, le-refl}
 use native.Mathlib.Omega.{arith}
-use lib.ListN.{length, getD, set}
+use lib.ListN.{length, getD, set, length-set}
 use lib.Seq.{getD-set-same, getD-set-other}
 use Rattle.calculus.specs.Limits.{LETTERS, CONNECTIVES}
 use Rattle.calculus.specs.Syntax.{Binary, Connective, NOT, two, Formula, letter, neg, join, Compound, compound, connectives, c}
@@ -102,7 +102,7 @@ module _ (q : List ℕ) (at n : ℕ) (h : Well q at) (T : List ℕ) where
   number-letter e l =
       let a = letter-here q at h e in (
         (λ i. record { name = sym (ap (name n) (a .stands)) i; end = sym (a .ends) i; next = (sym (add-zero n) ∙ sym (ap (λ (x : Formula). n + connectives x) (a .stands))) i }),
-        record { told = rw (a .stands) (rw (a .stands) at l); kept = λ k i. refl },
+        record { told = rw (a .stands) (rw (a .stands) at l); kept = λ k i. refl; size = refl },
       )
 
   module _ (u : getD q at 0 ≡ 1 → ⊥) (f : Named) (e : f ≡ named q (at + 1) (n + 1)) (R : List ℕ) (a : Numbered q (at + 1) (n + 1) T R) (b m : ℕ) (i : b ≡ getD q at 0) (j : m ≡ LETTERS + n) where
@@ -125,6 +125,7 @@ module _ (q : List ℕ) (at n : ℕ) (h : Well q at) (T : List ℕ) where
               told-same R (set R n w) (n + 1) x (λ k s t. getD-set-other R n k w 0 (λ z. omega arith)) (a .told),
             );
             kept = λ k s. getD-set-other R n k w 0 (λ z. omega arith) ∙ a .kept k (omega arith);
+            size = simp length-set (a .size);
           },
         )
 
@@ -155,6 +156,7 @@ module _ (q : List ℕ) (at n : ℕ) (h : Well q at) (T : List ℕ) where
               told-same P (set P n w) (n + 1 + connectives x) y (λ k z z′. getD-set-other P n k w 0 (λ z″. omega arith)) (r′ .told),
             );
             kept = λ k z. getD-set-other P n k w 0 (λ z″. omega arith) ∙ r′ .kept k (omega arith) ∙ a .kept k (omega arith);
+            size = simp length-set (r′ .size ∙ a .size);
           },
         )
 

@@ -24,6 +24,7 @@ named q at n =
 pub record Numbered (q : List ℕ) (at n : ℕ) (T R : List ℕ) : Type 0 where
   pub told : Told R n (formulaAt q at)
   pub kept : (k : ℕ) → k < n → getD R k 0 ≡ getD T k 0
+  pub size : length R ≡ length T
 
 -- ---- the formulas so far
 

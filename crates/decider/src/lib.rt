@@ -432,18 +432,26 @@ fn name(n: usize) -> u8
 }
 
 // Numbers the connectives of the formula at a position, from n on, and notes their nodes.
-fn number(q: &[u8], nodes: &mut [u32], at: usize, n: usize) -> Named
+fn number(q: &[u8], nodes: &mut [u32; 48], at: usize, n: usize) -> Named
     requires { ⌜ Well (now q) at × Lettered (formulaAt (now q) at) × (n + connectives (formulaAt (now q) at) ≤ CONNECTIVES) × (length (now nodes) ≡ CONNECTIVES) ⌝ }
     ensures { λ r. ⌜ (r ≡ named (now (q .entry)) at n) × Numbered (now (q .entry)) at n (now (nodes .entry)) (now (nodes .exit)) ⌝ }
 {
-    let b = q[at];
-    if b == 1 {
+    if q[at] == 1 {
         return Named {
             name: q[at + 1],
             end: at + 2,
             next: n,
         };
     }
+    number_parts(q, nodes, at, n)
+}
+
+// A compound: its parts, then itself.
+fn number_parts(q: &[u8], nodes: &mut [u32; 48], at: usize, n: usize) -> Named
+    requires { ⌜ Well (now q) at × Lettered (formulaAt (now q) at) × (n + connectives (formulaAt (now q) at) ≤ CONNECTIVES) × (length (now nodes) ≡ CONNECTIVES) × (getD (now q) at 0 ≡ 1 → ⊥) ⌝ }
+    ensures { λ r. ⌜ (r ≡ named (now (q .entry)) at n) × Numbered (now (q .entry)) at n (now (nodes .entry)) (now (nodes .exit)) ⌝ }
+{
+    let b = q[at];
     let f = number(q, nodes, at + 1, n + 1);
     if b == 2 {
         nodes[n] = node(b, f.name, f.name);
@@ -463,7 +471,7 @@ fn number(q: &[u8], nodes: &mut [u32], at: usize, n: usize) -> Named
 }
 
 // The next formula comes to the end of a side.
-fn enter(q: &[u8], nodes: &mut [u32], queue: &mut [u8], side: Side, l: Loaded) -> Loaded
+fn enter(q: &[u8], nodes: &mut [u32; 48], queue: &mut [u8], side: Side, l: Loaded) -> Loaded
     requires { ⌜ ((S : Sequent) × Loads (now nodes) (now queue) l S × Enters (now q) l S) ⌝ }
     ensures { λ r. ⌜ ((S : Sequent) → Loads (now (nodes .entry)) (now (queue .entry)) l S → Enters (now (q .entry)) l S → Loads (now (nodes .exit)) (now (queue .exit)) r (entered side (formulaAt (now (q .entry)) (l .end)) S)) × (r .end ≡ endOf (now (q .entry)) (l .end)) ⌝ }
 {
@@ -482,7 +490,7 @@ fn enter(q: &[u8], nodes: &mut [u32], queue: &mut [u8], side: Side, l: Loaded) -
 }
 
 // The formulas of a side of an accepted question, where that side starts.
-fn load(q: &[u8], nodes: &mut [u32], queue: &mut [u8], side: Side, start: Loaded) -> Loaded
+fn load(q: &[u8], nodes: &mut [u32; 48], queue: &mut [u8], side: Side, start: Loaded) -> Loaded
     requires { ⌜ (reading (now q) ≡ accepted) × (start .end ≡ sideStart side (question (now q))) × Loads (now nodes) (now queue) start (upTo side 0 (question (now q))) ⌝ }
     ensures { λ r. ⌜ Loads (now (nodes .exit)) (now (queue .exit)) r (upTo side (length (on-side side (question (now (q .entry))))) (question (now (q .entry)))) × (r .end ≡ startOf side (length (on-side side (question (now (q .entry))))) (question (now (q .entry)))) ⌝ }
 {

@@ -14,13 +14,13 @@ use Rattle.decider.proofs.load.Tie as tie
 
 abbrev Inv-loop : tie.InvT-loop
 Inv-loop q nodes₀ queue₀ side n l₀ i₀ nodes queue l i =
-    (l .end ≡ startOf side i (question q)) × (i ≤ n) × Loads nodes queue l (upTo side i (question q)) × (length nodes ≡ length nodes₀) × (length queue ≡ length queue₀)
+    (l .end ≡ startOf side i (question q)) × (i ≤ n) × Loads nodes queue l (upTo side i (question q)) × (length queue ≡ length queue₀)
 
 abbrev μ-loop : tie.MeasureT-loop
 μ-loop q nodes₀ queue₀ side n l₀ i₀ nodes queue l i = n - i
 
 -- there is a formula at place i
-inside : (c : tie.In-loop Inv-loop μ-loop) → c .before .loop .i < length (on-side (c .before .before .before .before .before .before .args .side) (question (c .before .before .before .before .before .before .args .q .now)))
+inside : (c : tie.In-loop Inv-loop μ-loop) → c .before .loop .i < length (on-side (c .before .before .before .before .before .args .side) (question (c .before .before .before .before .before .args .q .now)))
 inside c = omega (arith, c .loop-test .taken, c .before .before .side-count .ensures)
 
 pub load-spec : {M : Type 1} → statement M
@@ -29,36 +29,35 @@ load-spec =
     (tie.spec
     Inv-loop
     μ-loop
-    (λ c κs. let s = c .before .before .before in (s .pre .0, s .pre .1))
-    (λ c. let s = c .before .before .before .before in (s .pre .1 ∙ sym (add-zero _), omega arith, s .pre .2, refl, refl))
+    (λ c κs. let s = c .before .before in (s .pre .0, s .pre .1))
+    (λ c. let s = c .before .before .before in (s .pre .1 ∙ sym (add-zero _), omega arith, s .pre .2, refl))
     (λ c κs.
-    let s = c .before .before .before .before .before .before .before .before in
+    let s = c .before .before .before .before .before .before .before in
     let l = c .before .before .before .loop in (
       upTo (s .args .side) (l .i) (question (s .args .q .now)),
       l .inv .2,
       enters (s .args .q .now) (s .pre .0) (s .args .side) (l .i) (inside (c .before .before)) (l .l) (l .inv .0),
     ))
-    (λ c. omega (arith, c .before .before .before .before .before .before .before .loop-test .taken, c .before .before .before .before .before .before .before .before .before .side-count .ok))
-    (λ c. omega (arith, c .before .before .before .before .before .before .before .loop-test .taken))
+    (λ c. omega (arith, c .before .before .before .before .before .loop-test .taken, c .before .before .before .before .before .before .before .side-count .ok))
+    (λ c. omega (arith, c .before .before .before .before .before .loop-test .taken))
     (λ c.
-    let s = c .before .before .before .before .before .before .before .before .before .before .before .before .before in
+    let s = c .before .before .before .before .before .before .before .before .before .before in
     let q = s .args .q .now in
     let u = s .args .side in
-    let l = c .before .before .before .before .before .before .before .before .loop in
-    let e = c .before .before .before .before .enter in
-    let h = inside (c .before .before .before .before .before .before .before) in
+    let l = c .before .before .before .before .before .before .loop in
+    let e = c .before .before .enter in
+    let h = inside (c .before .before .before .before .before) in
     let r = e .ensures .0 (upTo u (l .i) (question q)) (l .inv .2) (enters q (s .pre .0) u (l .i) h (l .l) (l .inv .0)) in
     let d : entered u (formulaAt q (l .l .end)) (upTo u (l .i) (question q)) ≡ upTo u (l .i + 1) (question q) = rw (l .inv .0) (entered-next q (s .pre .0) u (l .i) h) in (
       e .ensures .1 ∙ rw (l .inv .0) (ends-next q (s .pre .0) u (l .i) h),
-      omega (arith, c .before .before .before .before .before .before .before .loop-test .taken),
+      omega (arith, c .before .before .before .before .before .loop-test .taken),
       rw d at r,
-      e .kept .1 .0 ∙ l .inv .3,
-      e .kept .1 .1 .0 ∙ l .inv .4,
+      e .kept .1 .1 .0 ∙ l .inv .3,
     ))
     (λ c. c .before .loop .inv .3)
-    (λ c. c .before .loop .inv .4)
     (λ c.
     let l = c .before .loop in
     let n = c .before .before .side-count in
-    let e : length (on-side (c .before .before .before .before .before .before .args .side) (question (c .before .before .before .before .before .before .args .q .now))) ≡ l .i = omega (arith, c .loop-test .left, l .inv .1, n .ensures) in
+    let s = c .before .before .before .before .before in
+    let e : length (on-side (s .args .side) (question (s .args .q .now))) ≡ l .i = omega (arith, c .loop-test .left, l .inv .1, n .ensures) in
     rw e (l .inv .2, l .inv .0)))

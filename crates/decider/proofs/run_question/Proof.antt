@@ -12,9 +12,9 @@ use Rattle.decider.proofs.run_question.Statement.{statement}
 use Rattle.decider.proofs.run_question.Tie as tie
 
 -- the whole question is in the making
-whole-now : (c : tie.After-load2) → let l = c .load2 in Makes (l .last .1 .0) (l .last .1 .1 .0) (l .result .sets) Right (record { f = 0; g = 0 }) 0 0 (question (c .before .before .before .before .before .before .before .before .before .before .before .args .q .now))
+whole-now : (c : tie.After-load2) → let l = c .load2 in Makes (l .last .1 .0) (l .last .1 .1 .0) (l .result .sets) Right (record { f = 0; g = 0 }) 0 0 (question (c .before .before .before .before .before .before .before .before .before .before .args .q .now))
 whole-now c =
-    let s = c .before .before .before .before .before .before .before .before .before .before .before in
+    let s = c .before .before .before .before .before .before .before .before .before .before in
     let l = c .load2 in
     root-makes (l .last .1 .0) (l .last .1 .1 .0) (l .result .sets) (question (s .args .q .now)) (all-run (s .args .q .now) (s .pre) (l .last .1 .0) (l .last .1 .1 .0) (l .result) (l .ensures .0))
 
@@ -23,22 +23,21 @@ run-question-spec =
     tie.close
     (tie.spec
     (λ c. search needs)
-    (λ c. search needs)
     (λ c κs. let s = c .before .before .before in (s .pre, refl, load-start _ _ (question (s .args .q .now)) refl refl))
     (λ c.
-    let s = c .before .before .before .before .before .before .before .before in
-    omega (arith, right-starts (s .args .q .now) (s .pre) (c .before .before .before .before .load .result .end) (c .before .before .before .before .load .ensures .1), side-inside (s .args .q .now) (s .pre) Right))
-    (λ c. search needs)
+    let s = c .before .before .before .before .before .before .before in
+    let l = c .before .before .before .load in
+    omega (arith, right-starts (s .args .q .now) (s .pre) (l .result .end) (l .ensures .1), side-inside (s .args .q .now) (s .pre) Right))
     (λ c. search needs)
     (λ c κs.
-    let s = c .before .before .before .before .before .before .before .before .before .before in
+    let s = c .before .before .before .before .before .before .before .before .before in
     let q = s .args .q .now in
-    let l = c .before .before .before .before .before .before .load in
+    let l = c .before .before .before .before .before .load in
     (s .pre, right-starts q (s .pre) (l .result .end) (l .ensures .1), between q (s .pre) (l .last .1 .0) (l .last .1 .1 .0) (l .result) _ (l .ensures .0)))
     (λ c. search needs)
     (λ c. search needs)
-    (λ c κs. (question (c .before .before .before .before .before .before .before .before .before .before .before .before .before .before .before .before .args .q .now), whole-now (c .before .before .before .before .before)))
+    (λ c κs. (question (c .before .before .before .before .before .before .before .before .before .before .before .before .before .before .args .q .now), whole-now (c .before .before .before .before)))
     (λ c κs. search needs)
     (λ c.
     let r = c .before .before .run in
-    (λ j. record { kind = c .kind .ensures j; unspent = r .result .unspent; closings = r .result .closings }) ∙ r .ensures .0 (question (c .before .before .before .before .before .before .before .before .before .before .before .before .before .before .before .before .before .before .before .args .q .now)) (whole-now (c .before .before .before .before .before .before .before .before))))
+    (λ j. record { kind = c .kind .ensures j; unspent = r .result .unspent; closings = r .result .closings }) ∙ r .ensures .0 (question (c .before .before .before .before .before .before .before .before .before .before .before .before .before .before .before .before .before .args .q .now)) (whole-now (c .before .before .before .before .before .before .before))))
