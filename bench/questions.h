@@ -3,7 +3,7 @@
 #include "peer.h"
 #include <stdio.h>
 
-enum { BUDGET = 1000000, EDITOR_QUESTIONS = 400, LIMITS_QUESTIONS = 200, LONG_QUESTIONS = 200 };
+enum { BUDGET = 1000000, EDITOR_QUESTIONS = 400, LIMITS_QUESTIONS = 200, LONG_QUESTIONS = 1000 };
 
 typedef struct {
     uint8_t bytes[MOST_BYTES];

@@ -30,7 +30,7 @@ use Rattle.sequent.proofs.Premises.{ones}
 use Rattle.decider.specs.declared.Sets.{Sets}
 use Rattle.decider.specs.declared.Loaded.{Loaded}
 use Rattle.decider.specs.Names.{name, Told, bitOf, markOf, waiting, Rising, Lined}
-use Rattle.decider.specs.States.{partsWaiting, appended, Takes, Runs}
+use Rattle.decider.specs.States.{partsWaiting, appended, Takes, Runs, counting}
 use Rattle.decider.specs.Loads.{WAITING, Loads, Enters, entered, upTo}
 use Rattle.decider.proofs.Numbers.{mark-small, waiting-short}
 use Rattle.decider.proofs.Lines.{rising-order, rising-wider, rising-append, rising-bound, lined-append}
@@ -91,17 +91,7 @@ abbrev pub alone : Side → Placing
 alone t = record { f = sideCode t; g = 0 }
 
 abbrev pub grown : Sets → Sets
-grown s =
-    record {
-      left = s .left;
-      first = s .first;
-      leftmask = s .leftmask;
-      rightmask = s .rightmask;
-      from = s .from;
-      to = s .to;
-      size = s .size + 1;
-      connectives = s .connectives;
-    }
+grown s = counting (s .size + 1) (s .connectives) s
 
 one-mask : (T : List ℕ) (n : ℕ) (x : Formula) → Told T n x → bitOr (markOf true (name n x)) 0 ≡ state (letters (x ∷ []))
 one-mask T n x t = or-zero-r _ ∙ keep-mark T n x t true ∙ sym (state-fold (x ∷ []))

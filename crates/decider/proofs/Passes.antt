@@ -40,7 +40,7 @@ use Rattle.decider.proofs.Numbers.{mark-small, waiting-short}
 use Rattle.decider.proofs.Lines.{rising-wider, rising-append, rising-empty, rising-bound, rising-splice, lined-append}
 use Rattle.decider.proofs.Naming.{Fair, node-told, parts-rising, parts-lined, parts-marks}
 use Rattle.decider.proofs.Rows.{premiseBy, RuleFor, rule-for, premises-by, premise-size}
-use Rattle.decider.proofs.Tests.{element-inside}
+use Rattle.decider.proofs.Tests.{element-inside, lacks-same}
 
 -- ---- letters
 
@@ -241,38 +241,11 @@ makes-kept T Q r t p f g S h R P s e k l =
     kept-before Q P (r .to) (s .to) (partsWaiting (other t) p f g) (omega (arith, ap (λ (v : Sets). v .to) e, premised-to t p f g r)) (h .long) (l ∙ k)
 
 -- the queue's places before its end are all that matters
-lacks-kept : (t : Side) (T Q R : List ℕ) (n i : ℕ) (x : Compound) (s : Sets) (S : Sequent) → take (s .to) R ≡ take (s .to) Q → Lacks t T CONNECTIVES Q n i x s S
-    → Lacks t T CONNECTIVES R n i x s S
-lacks-kept Left T Q R n i x s S e h =
-    let p = h .place in
-    record {
-      place = record { led = p .led; front = p .front; back = p .back; right = p .right; first = p .first; queue = rw e (p .queue) };
-      due = h .due;
-      told = h .told;
-      inside = h .inside;
-      leftmask = h .leftmask;
-      rightmask = h .rightmask;
-      lit = h .lit;
-      order = h .order;
-    }
-lacks-kept Right T Q R n i x s S e h =
-    let p = h .place in
-    record {
-      place = record { left = p .left; none = p .none; front = p .front; back = p .back; right = p .right; led = p .led; queue = rw e (p .queue) };
-      due = h .due;
-      told = h .told;
-      inside = h .inside;
-      leftmask = h .leftmask;
-      rightmask = h .rightmask;
-      lit = h .lit;
-      order = h .order;
-    }
-
 pub reduces-kept : (T Q R : List ℕ) (i : ℕ) (x : Compound) (S : Sequent) (d : Reduction) → Reduces T Q i x S d → take (d .rest .to) R ≡ take (d .rest .to) Q
     → length R ≡ length Q → Reduces T R i x S d
 reduces-kept T Q R i x S d h e l = record {
   number = h .number;
-  lacks = lacks-kept (d .side) T Q R (h .number) i x (d .rest) S e (h .lacks);
+  lacks = lacks-same (d .side) T Q R (h .number) i x (d .rest) S (d .rest .size) (d .rest .connectives) e (h .lacks);
   nodes = h .nodes;
   rows = h .rows;
   first = h .first;

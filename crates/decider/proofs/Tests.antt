@@ -8,7 +8,7 @@ use Prim.Native.Nat.{ℕ, zero, suc, _+_, _-_, _/_, _%_, _≤_, _<_}
 use native.Mathlib.Omega.{arith}
 use lib.Bits.{bitAnd}
 use lib.Dec.{eqb, ltb}
-use lib.ListN.{length, getD, getElem?}
+use lib.ListN.{length, take, getD, getElem?}
 use borrow.Author.Tests.{eqb-true, lt-ltb, le-ltb}
 use Rattle.calculus.specs.declared.Side.{Side}
 use Rattle.calculus.specs.declared.Side.the-variants.{Left, Right}
@@ -26,7 +26,7 @@ use Rattle.decider.specs.declared.Sets.{Sets}
 use Rattle.decider.specs.declared.Reduction.{Reduction}
 use Rattle.decider.specs.declared.Answer.{Answer}
 use Rattle.decider.specs.declared.Answer.the-variants.{Closed, Open, Full, Spent, Reduce}
-use Rattle.decider.specs.States.{Runs, Lacks, firstName, secondName, Took, resized, Reduced, Reducing}
+use Rattle.decider.specs.States.{Runs, Place, Lacks, firstName, secondName, Took, counting, resized, Reduced, Reducing}
 use Rattle.decider.proofs.Closing.{not-closed, closed-by}
 use Rattle.decider.proofs.Naming.{NodeTold, node-told, node-read}
 use Rattle.decider.proofs.Rows.{premiseBy, rule-for, premises-by, premise-size}
@@ -73,32 +73,23 @@ module _ (t : Side) (i : ℕ) (x : Compound) (S : Sequent) (r : Rule) (rows : pr
 
 -- ---- the answers
 
-lacks-resized : (t : Side) (T Q : List ℕ) (n i : ℕ) (x : Compound) (s : Sets) (S : Sequent) (m : ℕ) → Lacks t T CONNECTIVES Q n i x s S
-    → Lacks t T CONNECTIVES Q n i x (resized m s) S
-lacks-resized Left T Q n i x s S m h =
-    let p = h .place in
-    record {
-      place = record { led = p .led; front = p .front; back = p .back; right = p .right; first = p .first; queue = p .queue };
-      due = h .due;
-      told = h .told;
-      inside = h .inside;
-      leftmask = h .leftmask;
-      rightmask = h .rightmask;
-      lit = h .lit;
-      order = h .order;
-    }
-lacks-resized Right T Q n i x s S m h =
-    let p = h .place in
-    record {
-      place = record { left = p .left; none = p .none; front = p .front; back = p .back; right = p .right; led = p .led; queue = p .queue };
-      due = h .due;
-      told = h .told;
-      inside = h .inside;
-      leftmask = h .leftmask;
-      rightmask = h .rightmask;
-      lit = h .lit;
-      order = h .order;
-    }
+-- neither the counts matter nor what the queue holds behind its end
+pub lacks-same : (t : Side) (T Q R : List ℕ) (n i : ℕ) (x : Compound) (s : Sets) (S : Sequent) (m k : ℕ) → take (s .to) R ≡ take (s .to) Q → Lacks t T CONNECTIVES Q n i x s S
+    → Lacks t T CONNECTIVES R n i x (counting m k s) S
+lacks-same t T Q R n i x s S m k e h = record {
+  place = go t (h .place);
+  due = h .due;
+  told = h .told;
+  inside = h .inside;
+  leftmask = h .leftmask;
+  rightmask = h .rightmask;
+  lit = h .lit;
+  order = h .order;
+}
+  where
+    go : (t : Side) → Place t T CONNECTIVES Q n i x s S → Place t T CONNECTIVES R n i x (counting m k s) S
+    go Left p = record { led = p .led; front = p .front; back = p .back; right = p .right; first = p .first; queue = rw e (p .queue) }
+    go Right p = record { left = p .left; none = p .none; front = p .front; back = p .back; right = p .right; led = p .led; queue = rw e (p .queue) }
 
 module _ (T Q : List ℕ) (s : Sets) (S : Sequent) (h : Runs T Q s S) (b : ℕ) where
   pub took-closed : (bitAnd (s .leftmask) (s .rightmask) ≡ 0 → ⊥) → Took T Q s b S Closed
@@ -165,7 +156,7 @@ module _ (T Q : List ℕ) (s : Sets) (S : Sequent) (h : Runs T Q s S) (b : ℕ) 
           rw e (afforded b (k .left)),
           record {
             number = n;
-            lacks = rw rest (lacks-resized (d .side) T Q n (f .place) (f .compound) r S m (f .lacks));
+            lacks = rw rest (lacks-same (d .side) T Q Q n (f .place) (f .compound) r S m (r .connectives - 1) refl (f .lacks));
             nodes = h .nodes;
             rows = rows;
             first = k .first ∙ reads z (d .side) n r f .1;

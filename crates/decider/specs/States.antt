@@ -259,9 +259,9 @@ Took T Q s b S (Reduce d) =
 abbrev pub placedOf : ℕ → ℕ
 placedOf k = choose (eqb k 1) 1 (choose (eqb k 2) 1 0)
 
--- the state with its formulas counted, and one connective less
-abbrev pub resized : ℕ → Sets → Sets
-resized n s =
+-- the state with other counts
+abbrev pub counting : ℕ → ℕ → Sets → Sets
+counting m k s =
     record {
       left = s .left;
       first = s .first;
@@ -269,9 +269,13 @@ resized n s =
       rightmask = s .rightmask;
       from = s .from;
       to = s .to;
-      size = n;
-      connectives = s .connectives - 1;
+      size = m;
+      connectives = k;
     }
+
+-- with its formulas counted, and one connective less
+abbrev pub resized : ℕ → Sets → Sets
+resized n s = counting n (s .connectives - 1) s
 
 pub record Reduced (w : ℕ) (t : Side) (b : ℕ) (s : Sets) (d : Reduction) : Type 0 where
   pub side : d .side ≡ t
