@@ -153,17 +153,15 @@ impl Sets {
         requires { ⌜ (f < LETTERS + CONNECTIVES) × (g < LETTERS + CONNECTIVES) × (setOf side self + partBits side p f g < 2 ^ 64) ⌝ }
         ensures { λ r. ⌜ r ≡ replaced side p f g self ⌝ }
     {
-        let bits = bits_on(side, p, f, g);
-        let marks = marks_on(side, p, f, g);
         match side {
             Side::Left => {
-                self.left = self.left + bits;
-                self.leftmask = self.leftmask | marks;
+                self.left = self.left + bits_on(Side::Left, p, f, g);
+                self.leftmask = self.leftmask | marks_on(Side::Left, p, f, g);
                 return self;
             }
             Side::Right => {
-                self.first = self.first + bits;
-                self.rightmask = self.rightmask | marks;
+                self.first = self.first + bits_on(Side::Right, p, f, g);
+                self.rightmask = self.rightmask | marks_on(Side::Right, p, f, g);
                 return self;
             }
         }
