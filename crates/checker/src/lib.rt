@@ -128,7 +128,9 @@ fn wide(p: u8) -> usize
 // The formula at a place of a side, if it has the connective whose command is b.
 fn formula_named(q: &[u8], s: Running, side: Side, b: u8, place: u8, at: usize) -> Move
     requires { ⌜ Good (now q) s ⌝ }
-    ensures { λ r. ⌜ ((k : Connective) → code (CONNECTIVE k) ≡ b → Moves (now (q .entry)) s place at (obey (some (REDUCE side k)) place (sequentOf (now (q .entry)) s)) r) ⌝ }
+    ensures { λ r. ⌜
+        ((k : Connective) → code (CONNECTIVE k) ≡ b
+        → Moves (now (q .entry)) s place at (obey (some (REDUCE side k)) place (sequentOf (now (q .entry)) s)) r) ⌝ }
 {
     let i = wide(place);
     if s.count(side) <= i {
@@ -211,8 +213,11 @@ fn walk_premises(
 // Checks a derivation of a question.
 pub fn check(q: &[u8], derivation: &[u8]) -> Answer
     ensures reply { λ r. ⌜ checkOf r ≡ checkReply (now (q .entry)) (now (derivation .entry)) ⌝ }
-    ensures sound { λ r. ⌜ (r ≡ Answer.Passes → (reading (now (q .entry)) ≡ accepted) × Valid (question (now (q .entry)))) ⌝ }
-    ensures exactly { λ r. ⌜ (r ≡ Answer.Passes) ↔ ((reading (now (q .entry)) ≡ accepted) × Derivation (question (now (q .entry))) (now (derivation .entry))) ⌝ }
+    ensures sound { λ r. ⌜
+        (r ≡ Answer.Passes → (reading (now (q .entry)) ≡ accepted) × Valid (question (now (q .entry)))) ⌝ }
+    ensures exactly { λ r. ⌜
+        (r ≡ Answer.Passes)
+        ↔ ((reading (now (q .entry)) ≡ accepted) × Derivation (question (now (q .entry))) (now (derivation .entry))) ⌝ }
 {
     let reading = question::read(q);
     match reading {

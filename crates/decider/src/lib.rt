@@ -18,7 +18,9 @@ ghost use Rattle.question.specs.Positions.{Well, formulaAt, endOf};
 ghost use Rattle.sequent.specs.Rule.{sideCode, premiseOf};
 ghost use Rattle.decider.specs.Names.{name, node, bitOf, markOf, waiting};
 ghost use Rattle.decider.specs.Loads.{named, Numbered, Loads, Enters, entered, upTo};
-ghost use Rattle.decider.specs.States.{kindOf, outcomeOf, partBits, partMarks, partsWaiting, setOf, replaced, appended, premised, fetched, lowest, dueIn, placedOf, Takes, Makes, Reducing, Runs, Reduces, Took};
+ghost use Rattle.decider.specs.States.{kindOf, outcomeOf, partBits, partMarks, partsWaiting, setOf, replaced};
+ghost use Rattle.decider.specs.States.{appended, premised, fetched, lowest, dueIn, placedOf, Takes, Makes};
+ghost use Rattle.decider.specs.States.{Reducing, Runs, Reduces, Took};
 
 // The connectives of a question are numbered in the order of its bytes, and a compound formula is named by its connective.
 // `left` and `first` are sets of such numbers: the left side, and what is left of the right formula under reduction. The
@@ -93,7 +95,9 @@ fn mark(wanted: bool, name: u8) -> u64
 // A compound goes to the queue's end. What is written behind the end does not count.
 fn push(queue: &mut [u8], to: usize, wanted: bool, name: u8) -> usize
     requires { ⌜ to < length (now queue) ⌝ }
-    ensures { λ r. ⌜ (r ≡ to + length (waiting wanted name)) × (take r (now (queue .exit)) ≡ take to (now (queue .entry)) ++ waiting wanted name) ⌝ }
+    ensures { λ r. ⌜
+        (r ≡ to + length (waiting wanted name))
+        × (take r (now (queue .exit)) ≡ take to (now (queue .entry)) ++ waiting wanted name) ⌝ }
 {
     queue[to] = name;
     if wanted {
@@ -150,7 +154,10 @@ fn without(set: u64, n: usize) -> u64
 impl Sets {
     // The parts that stay on a side take the place of the formula that was due there.
     fn replace(mut self, side: Side, p: Placing, f: u8, g: u8) -> Sets
-        requires { ⌜ (f < LETTERS + CONNECTIVES) × (g < LETTERS + CONNECTIVES) × (setOf side self + partBits side p f g < 2 ^ 64) ⌝ }
+        requires { ⌜
+            (f < LETTERS + CONNECTIVES)
+            × (g < LETTERS + CONNECTIVES)
+            × (setOf side self + partBits side p f g < 2 ^ 64) ⌝ }
         ensures { λ r. ⌜ r ≡ replaced side p f g self ⌝ }
     {
         match side {
@@ -170,7 +177,9 @@ impl Sets {
     // The parts that come to the right go to its end.
     fn push_parts(mut self, queue: &mut [u8], p: Placing, f: u8, g: u8) -> Sets
         requires { ⌜ self .to + 2 ≤ length (now queue) ⌝ }
-        ensures { λ r. ⌜ (r ≡ appended Side.Right p f g self) × (take (r .to) (now (queue .exit)) ≡ take (self .to) (now (queue .entry)) ++ partsWaiting Side.Right p f g) ⌝ }
+        ensures { λ r. ⌜
+            (r ≡ appended Side.Right p f g self)
+            × (take (r .to) (now (queue .exit)) ≡ take (self .to) (now (queue .entry)) ++ partsWaiting Side.Right p f g) ⌝ }
     {
         let marks = marks_on(Side::Right, p, f, g);
         let next = push(queue, self.to, p.f == 2, f);
@@ -181,8 +190,13 @@ impl Sets {
 
     // The parts that change side go to its end.
     fn append(self, queue: &mut [u8], side: Side, p: Placing, f: u8, g: u8) -> Sets
-        requires { ⌜ (f < LETTERS + CONNECTIVES) × (g < LETTERS + CONNECTIVES) × Takes side p f g (length (now queue)) self ⌝ }
-        ensures { λ r. ⌜ (r ≡ appended side p f g self) × (take (r .to) (now (queue .exit)) ≡ take (self .to) (now (queue .entry)) ++ partsWaiting side p f g) ⌝ }
+        requires { ⌜
+            (f < LETTERS + CONNECTIVES)
+            × (g < LETTERS + CONNECTIVES)
+            × Takes side p f g (length (now queue)) self ⌝ }
+        ensures { λ r. ⌜
+            (r ≡ appended side p f g self)
+            × (take (r .to) (now (queue .exit)) ≡ take (self .to) (now (queue .entry)) ++ partsWaiting side p f g) ⌝ }
     {
         match side {
             Side::Left => self.replace(Side::Left, p, f, g),
@@ -192,7 +206,10 @@ impl Sets {
 
     // The first that waits comes to the right's set, if that is empty.
     fn fetch(mut self, queue: &[u8]) -> Sets
-        requires { ⌜ (self .to ≤ length (now queue)) × (self .from < self .to → (LETTERS ≤ getD (now queue) (self .from) 0) × (getD (now queue) (self .from) 0 < LETTERS + 64)) ⌝ }
+        requires { ⌜
+            (self .to ≤ length (now queue))
+            × (self .from < self .to
+            → (LETTERS ≤ getD (now queue) (self .from) 0) × (getD (now queue) (self .from) 0 < LETTERS + 64)) ⌝ }
         ensures { λ r. ⌜ r ≡ fetched (now (queue .entry)) self ⌝ }
     {
         let from = self.from;
@@ -208,7 +225,10 @@ impl Sets {
 
     // The first formula with a connective, the left side before the right.
     fn first_compound(mut self, queue: &[u8]) -> Due
-        requires { ⌜ (self .to ≤ length (now queue)) × (self .from < self .to → (LETTERS ≤ getD (now queue) (self .from) 0) × (getD (now queue) (self .from) 0 < LETTERS + 64)) ⌝ }
+        requires { ⌜
+            (self .to ≤ length (now queue))
+            × (self .from < self .to
+            → (LETTERS ≤ getD (now queue) (self .from) 0) × (getD (now queue) (self .from) 0 < LETTERS + 64)) ⌝ }
         ensures { λ r. ⌜ r ≡ dueIn (now (queue .entry)) self ⌝ }
     {
         if self.left != 0 {
@@ -247,8 +267,14 @@ fn placed(side: u8) -> usize
 impl Sets {
     // A premise: the parts that keep their side take the place of the formula that was due, the others go to the end.
     fn premise(self, queue: &mut [u8], side: Side, p: Placing, f: u8, g: u8) -> Sets
-        requires { ⌜ (f < LETTERS + CONNECTIVES) × (g < LETTERS + CONNECTIVES) × (setOf side self + partBits side p f g < 2 ^ 64) × Takes (other side) p f g (length (now queue)) self ⌝ }
-        ensures { λ r. ⌜ (r ≡ premised side p f g self) × (take (r .to) (now (queue .exit)) ≡ take (self .to) (now (queue .entry)) ++ partsWaiting (other side) p f g) ⌝ }
+        requires { ⌜
+            (f < LETTERS + CONNECTIVES)
+            × (g < LETTERS + CONNECTIVES)
+            × (setOf side self + partBits side p f g < 2 ^ 64)
+            × Takes (other side) p f g (length (now queue)) self ⌝ }
+        ensures { λ r. ⌜
+            (r ≡ premised side p f g self)
+            × (take (r .to) (now (queue .exit)) ≡ take (self .to) (now (queue .entry)) ++ partsWaiting (other side) p f g) ⌝ }
     {
         let away = side.other();
         self.replace(side, p, f, g).append(queue, away, p, f, g)
@@ -256,7 +282,14 @@ impl Sets {
 
     // The reduction of the compound with the connective n, which was taken out on a side: FULL and SPENT come before it.
     fn reduction(mut self, nodes: &[u32], side: Side, n: usize, left: u64) -> Answer
-        requires { ⌜ (length (now nodes) ≡ CONNECTIVES) × (n < CONNECTIVES) × (2 ≤ getD (now nodes) n 0 % 256) × (getD (now nodes) n 0 % 256 ≤ 6) × (1 ≤ self .size) × (self .size ≤ ROOM) × (1 ≤ self .connectives) ⌝ }
+        requires { ⌜
+            (length (now nodes) ≡ CONNECTIVES)
+            × (n < CONNECTIVES)
+            × (2 ≤ getD (now nodes) n 0 % 256)
+            × (getD (now nodes) n 0 % 256 ≤ 6)
+            × (1 ≤ self .size)
+            × (self .size ≤ ROOM)
+            × (1 ≤ self .connectives) ⌝ }
         ensures { λ r. ⌜ Reducing (getD (now (nodes .entry)) n 0) side left self r ⌝ }
     {
         let node = nodes[n];
@@ -278,11 +311,14 @@ impl Sets {
         })
     }
 
-    // The inner step: a running sequent through the tests, with the reductions left. Its contract gives Spent where a compound
-    // is left and no reduction is, and a run goes on only with the reduction that it is handed: none is taken after SPENT.
+    // The inner step: a running sequent through the tests, with the reductions left. Its contract gives Spent where a
+    // compound is left and no reduction is, and a run goes on only with the reduction that it is handed: none is taken after
+    // SPENT.
     fn step(self, nodes: &[u32], queue: &[u8], left: u64) -> Answer
         requires { ⌜ ((S : Sequent) × Runs (now nodes) (now queue) self S) ⌝ }
-        ensures { λ r. ⌜ ((S : Sequent) → Runs (now (nodes .entry)) (now (queue .entry)) self S → Took (now (nodes .entry)) (now (queue .entry)) self left S r) ⌝ }
+        ensures { λ r. ⌜
+            ((S : Sequent) → Runs (now (nodes .entry)) (now (queue .entry)) self S
+            → Took (now (nodes .entry)) (now (queue .entry)) self left S r) ⌝ }
     {
         if self.leftmask & self.rightmask != 0 {
             return Answer::Closed;
@@ -315,7 +351,10 @@ fn run(
     left: u64,
 ) -> Tally
     requires { ⌜ ((S : Sequent) × Makes (now nodes) (now queue) rest side p f g S) ⌝ }
-    ensures { λ r. ⌜ ((S : Sequent) → Makes (now (nodes .entry)) (now (queue .entry)) rest side p f g S → outcomeOf r ≡ outcome left S) × (take (rest .to) (now (queue .exit)) ≡ take (rest .to) (now (queue .entry))) × (r .ending < 3 + 2 ^ LETTERS) ⌝ }
+    ensures { λ r. ⌜
+        ((S : Sequent) → Makes (now (nodes .entry)) (now (queue .entry)) rest side p f g S → outcomeOf r ≡ outcome left S)
+        × (take (rest .to) (now (queue .exit)) ≡ take (rest .to) (now (queue .entry)))
+        × (r .ending < 3 + 2 ^ LETTERS) ⌝ }
 {
     let s = rest.premise(queue, side, p, f, g);
     let answer = s.step(nodes, queue, left);
@@ -347,7 +386,11 @@ fn run(
 // The first premise is finished, then the second is taken up.
 fn run_premises(nodes: &[u32], queue: &mut [u8], d: Reduction, left: u64) -> Tally
     requires { ⌜ ((i : ℕ) × (x : Compound) × (S : Sequent) × Reduces (now nodes) (now queue) i x S d) ⌝ }
-    ensures { λ r. ⌜ ((i : ℕ) (x : Compound) (S : Sequent) → Reduces (now (nodes .entry)) (now (queue .entry)) i x S d → outcomeOf r ≡ pass outcome left (premises (d .side) i x S)) × (take (d .rest .to) (now (queue .exit)) ≡ take (d .rest .to) (now (queue .entry))) × (r .ending < 3 + 2 ^ LETTERS) ⌝ }
+    ensures { λ r. ⌜
+        ((i : ℕ) (x : Compound) (S : Sequent) → Reduces (now (nodes .entry)) (now (queue .entry)) i x S d
+        → outcomeOf r ≡ pass outcome left (premises (d .side) i x S))
+        × (take (d .rest .to) (now (queue .exit)) ≡ take (d .rest .to) (now (queue .entry)))
+        × (r .ending < 3 + 2 ^ LETTERS) ⌝ }
 {
     let side = d.side;
     let rule = d.rule;
@@ -431,8 +474,14 @@ fn name(n: usize) -> u8
 
 // Numbers the connectives of the formula at a position, from n on, and notes their nodes.
 fn number(q: &[u8], nodes: &mut [u32; 48], at: usize, n: usize) -> Named
-    requires { ⌜ Well (now q) at × Lettered (formulaAt (now q) at) × (n + connectives (formulaAt (now q) at) ≤ CONNECTIVES) × (length (now nodes) ≡ CONNECTIVES) ⌝ }
-    ensures { λ r. ⌜ (r ≡ named (now (q .entry)) at n) × Numbered (now (q .entry)) at n (now (nodes .entry)) (now (nodes .exit)) ⌝ }
+    requires { ⌜
+        Well (now q) at
+        × Lettered (formulaAt (now q) at)
+        × (n + connectives (formulaAt (now q) at) ≤ CONNECTIVES)
+        × (length (now nodes) ≡ CONNECTIVES) ⌝ }
+    ensures { λ r. ⌜
+        (r ≡ named (now (q .entry)) at n)
+        × Numbered (now (q .entry)) at n (now (nodes .entry)) (now (nodes .exit)) ⌝ }
 {
     if q[at] == 1 {
         return Named {
@@ -446,8 +495,15 @@ fn number(q: &[u8], nodes: &mut [u32; 48], at: usize, n: usize) -> Named
 
 // A compound: its parts, then itself.
 fn number_parts(q: &[u8], nodes: &mut [u32; 48], at: usize, n: usize) -> Named
-    requires { ⌜ Well (now q) at × Lettered (formulaAt (now q) at) × (n + connectives (formulaAt (now q) at) ≤ CONNECTIVES) × (length (now nodes) ≡ CONNECTIVES) × (getD (now q) at 0 ≡ 1 → ⊥) ⌝ }
-    ensures { λ r. ⌜ (r ≡ named (now (q .entry)) at n) × Numbered (now (q .entry)) at n (now (nodes .entry)) (now (nodes .exit)) ⌝ }
+    requires { ⌜
+        Well (now q) at
+        × Lettered (formulaAt (now q) at)
+        × (n + connectives (formulaAt (now q) at) ≤ CONNECTIVES)
+        × (length (now nodes) ≡ CONNECTIVES)
+        × (getD (now q) at 0 ≡ 1 → ⊥) ⌝ }
+    ensures { λ r. ⌜
+        (r ≡ named (now (q .entry)) at n)
+        × Numbered (now (q .entry)) at n (now (nodes .entry)) (now (nodes .exit)) ⌝ }
 {
     let b = q[at];
     let f = number(q, nodes, at + 1, n + 1);
@@ -471,7 +527,10 @@ fn number_parts(q: &[u8], nodes: &mut [u32; 48], at: usize, n: usize) -> Named
 // The next formula comes to the end of a side.
 fn enter(q: &[u8], nodes: &mut [u32; 48], queue: &mut [u8], side: Side, l: Loaded) -> Loaded
     requires { ⌜ ((S : Sequent) × Loads (now nodes) (now queue) l S × Enters (now q) l S) ⌝ }
-    ensures { λ r. ⌜ ((S : Sequent) → Loads (now (nodes .entry)) (now (queue .entry)) l S → Enters (now (q .entry)) l S → Loads (now (nodes .exit)) (now (queue .exit)) r (entered side (formulaAt (now (q .entry)) (l .end)) S)) × (r .end ≡ endOf (now (q .entry)) (l .end)) ⌝ }
+    ensures { λ r. ⌜
+        ((S : Sequent) → Loads (now (nodes .entry)) (now (queue .entry)) l S → Enters (now (q .entry)) l S
+        → Loads (now (nodes .exit)) (now (queue .exit)) r (entered side (formulaAt (now (q .entry)) (l .end)) S))
+        × (r .end ≡ endOf (now (q .entry)) (l .end)) ⌝ }
 {
     let f = number(q, nodes, l.end, l.next);
     let p = Placing {
@@ -489,8 +548,14 @@ fn enter(q: &[u8], nodes: &mut [u32; 48], queue: &mut [u8], side: Side, l: Loade
 
 // The formulas of a side of an accepted question, where that side starts.
 fn load(q: &[u8], nodes: &mut [u32; 48], queue: &mut [u8], side: Side, start: Loaded) -> Loaded
-    requires { ⌜ (reading (now q) ≡ accepted) × (start .end ≡ sideStart side (question (now q))) × Loads (now nodes) (now queue) start (upTo side 0 (question (now q))) ⌝ }
-    ensures { λ r. ⌜ Loads (now (nodes .exit)) (now (queue .exit)) r (upTo side (length (on-side side (question (now (q .entry))))) (question (now (q .entry)))) × (r .end ≡ startOf side (length (on-side side (question (now (q .entry))))) (question (now (q .entry)))) ⌝ }
+    requires { ⌜
+        (reading (now q) ≡ accepted)
+        × (start .end ≡ sideStart side (question (now q)))
+        × Loads (now nodes) (now queue) start (upTo side 0 (question (now q))) ⌝ }
+    ensures { λ r. ⌜
+        Loads (now (nodes .exit)) (now (queue .exit)) r
+        (upTo side (length (on-side side (question (now (q .entry))))) (question (now (q .entry))))
+        × (r .end ≡ startOf side (length (on-side side (question (now (q .entry))))) (question (now (q .entry)))) ⌝ }
 {
     let n = question::side_count(q, side, start.end);
     let mut l = start;

@@ -22,7 +22,8 @@ ghost use Rattle.writer.specs.Answers.{unproved, answerOf, Evidence};
 ghost use Rattle.checker.specs.Answers.{faultNumber, faultPlace, checkOf};
 ghost use Rattle.writer.specs.declared.Answer.the-variants.{Written};
 ghost use Rattle.checker.specs.declared.Answer.the-variants.{Passes};
-ghost use Rattle.gekunday.specs.Words.{filled, Holds, kindNumber, refutedWord, stateWord, decideWords, partWords, formulaWords};
+ghost use Rattle.gekunday.specs.Words.{filled, Holds, kindNumber, refutedWord, stateWord, decideWords, partWords};
+ghost use Rattle.gekunday.specs.Words.{formulaWords};
 
 // Decides a question within a budget of reductions.
 pub fn decide(q: &[u8], budget: u64) -> Decision
@@ -50,7 +51,9 @@ pub fn formula(q: &[u8], side: Side, place: usize) -> &[u8]
 pub fn derive(q: &[u8], budget: u64, buffer: &mut [u8]) -> writer::Answer
     ensures reply { λ r. ⌜ answerOf r ≡ derive (now (q .entry)) budget (now (buffer .entry)) .reply ⌝ }
     ensures written { λ r. ⌜ now (buffer .exit) ≡ derive (now (q .entry)) budget (now (buffer .entry)) .buffer ⌝ }
-    ensures evidence { λ r. ⌜ ((n : ℕ) (v : Verdict) → r ≡ Written n v → (v .kind ≡ Kind.Theorem) × Evidence (now (q .entry)) (take n (now (buffer .exit)))) ⌝ }
+    ensures evidence { λ r. ⌜
+        ((n : ℕ) (v : Verdict) → r ≡ Written n v
+        → (v .kind ≡ Kind.Theorem) × Evidence (now (q .entry)) (take n (now (buffer .exit)))) ⌝ }
 {
     writer::derive(q, budget, buffer)
 }
@@ -272,7 +275,8 @@ pub extern "C" fn gekunday_derive(
     out: &mut [u64; 3],
 ) -> u32
     ensures number { λ r. ⌜ r ≡ derive (now (q .entry)) budget (now (buffer .entry)) .reply .number ⌝ }
-    ensures words { λ r. ⌜ now (out .exit) ≡ filled 3 (derive (now (q .entry)) budget (now (buffer .entry)) .reply .values) ⌝ }
+    ensures words { λ r. ⌜
+        now (out .exit) ≡ filled 3 (derive (now (q .entry)) budget (now (buffer .entry)) .reply .values) ⌝ }
     ensures written { λ r. ⌜ now (buffer .exit) ≡ derive (now (q .entry)) budget (now (buffer .entry)) .buffer ⌝ }
 {
     let w = derivation_words(writer::derive(q, budget, buffer));

@@ -55,7 +55,10 @@ fn wide(p: u8) -> usize
 // The tests at a sequent whose first compound is at a place of a side: FULL, SPENT, then the reduction.
 fn due_at(q: &[u8], s: Running, side: Side, at: usize, p: u8, left: u64) -> Due
     requires { ⌜ Good (now q) s × FoundAt (now q) s side at p ⌝ }
-    ensures { λ r. ⌜ (innerOf (now (q .entry)) r ≡ afford left (due (sequentOf (now (q .entry)) s) side at (compoundAt (now (q .entry)) p))) × Ready (now (q .entry)) s left r ⌝ }
+    ensures { λ r. ⌜
+        (innerOf (now (q .entry)) r
+        ≡ afford left (due (sequentOf (now (q .entry)) s) side at (compoundAt (now (q .entry)) p)))
+        × Ready (now (q .entry)) s left r ⌝ }
 {
     let rule = sequent::rule_of(q[wide(p)], side);
     if overfull(rule, s.lefts + s.rights) {

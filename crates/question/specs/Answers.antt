@@ -3,6 +3,7 @@ use mathlib.Core.List.{List}
 use Prim.Native.Nat.{ℕ, _+_, _-_, _≤_}
 use lib.ListN.{length, drop}
 use Rattle.calculus.specs.declared.Side.{Side}
+use Rattle.calculus.specs.declared.Expected.{Expected}
 use Rattle.calculus.specs.Limits.{LONGEST, FORMULAS, CONNECTIVES, TOO-LONG, CUT, WRONG-COMMAND, MANY-FORMULAS, NO-SUCH-LETTER, MANY-CONNECTIVES, LEFT-OVER}
 use Rattle.calculus.specs.Reading.{Reading as Result, accepted, refused, after, begin, goOn, read}
 use Rattle.calculus.specs.Bytes.{command}
@@ -47,9 +48,13 @@ abbrev pub Onwards : List ℕ → ℕ → Step → Type 0
 Onwards q at (Next k) = Within q k × (at ≤ k .at)
 Onwards q at (Stop r) = Unit {0}
 
--- the reading from a cursor on, its formulas being those of side s
+-- the reading from a cursor on, where e is expected
+abbrev pub readAt : List ℕ → Expected → Cursor → Result
+readAt q e k = read (drop (k .at) q) e (k .connectives) (k .at)
+
+-- the formulas due being those of side s
 abbrev pub readFrom : List ℕ → Side → Cursor → Result
-readFrom q s k = read (drop (k .at) q) (after s (k .due)) (k .connectives) (k .at)
+readFrom q s k = readAt q (after s (k .due)) k
 
 -- the reading after a step
 abbrev pub steps : List ℕ → Side → Step → Result
@@ -62,5 +67,5 @@ begun q s k b = goOn (begin (command b) s (k .due - 1) (k .connectives)) (k .at)
 
 -- the reading after the formulas of side s
 abbrev pub passes : List ℕ → Side → Step → Result
-passes q s (Next k) = read (drop (k .at) q) (after s 0) (k .connectives) (k .at)
+passes q s (Next k) = readAt q (after s 0) k
 passes q s (Stop r) = refused (numberOf r) (placeOf r)

@@ -9,9 +9,9 @@ ghost use lib.ListN.{length, take, drop};
 ghost use Rattle.calculus.specs.Limits.{LONGEST, FORMULAS};
 ghost use Rattle.calculus.specs.Syntax.{on-side};
 ghost use Rattle.calculus.specs.Bytes.{SIDE, code, formulas, bytesAll, question, sideStart};
-ghost use Rattle.calculus.specs.Reading.{read, accepted, reading};
+ghost use Rattle.calculus.specs.Reading.{accepted, reading};
 ghost use Rattle.calculus.specs.Reply.{formulaPart, formulaBytes};
-ghost use Rattle.question.specs.Answers.{numberOf, placeOf, readingOf, begun, Within, Onwards, readFrom, steps, passes};
+ghost use Rattle.question.specs.Answers.{numberOf, placeOf, readingOf, begun, Within, Onwards, readAt, readFrom, steps, passes};
 ghost use Rattle.question.specs.Positions.{Well, endOf, commandLength, dueAfter, partBytes};
 
 // The limits of document 01.
@@ -97,7 +97,9 @@ impl Cursor {
     // The operand of the letter at the cursor.
     fn letter(self, q: &[u8]) -> Step
         requires { ⌜ Within (now q) self × (self .at < length (now q)) × (1 ≤ self .due) ⌝ }
-        ensures { λ r. ⌜ ((s : Side) → steps (now (q .entry)) s r ≡ read (drop (self .at + 1) (now (q .entry))) (Expected.Operand s (self .due - 1)) (self .connectives) (self .at + 1)) × Onwards (now (q .entry)) (self .at + 1) r ⌝ }
+        ensures { λ r. ⌜
+            ((s : Side) → steps (now (q .entry)) s r ≡ begun (now (q .entry)) s self 1)
+            × Onwards (now (q .entry)) (self .at + 1) r ⌝ }
     {
         let operand = self.at + 1;
         if q.len() <= operand {
@@ -115,8 +117,15 @@ impl Cursor {
 
     // The connective b at the cursor.
     fn connective(self, b: u8) -> Step
-        requires { ⌜ (self .at ≤ LONGEST) × (1 ≤ self .due) × (self .due ≤ FORMULAS + self .connectives) × (2 ≤ b) × (b ≤ 6) ⌝ }
-        ensures { λ r. ⌜ ((q : List ℕ) (s : Side) → steps q s r ≡ begun q s self b) × ((q : List ℕ) → Within q self → self .at < length q → Onwards q (self .at + 1) r) ⌝ }
+        requires { ⌜
+            (self .at ≤ LONGEST)
+            × (1 ≤ self .due)
+            × (self .due ≤ FORMULAS + self .connectives)
+            × (2 ≤ b)
+            × (b ≤ 6) ⌝ }
+        ensures { λ r. ⌜
+            ((q : List ℕ) (s : Side) → steps q s r ≡ begun q s self b)
+            × ((q : List ℕ) → Within q self → self .at < length q → Onwards q (self .at + 1) r) ⌝ }
     {
         let behind = self.at + 1;
         if MOST_CONNECTIVES <= self.connectives {
@@ -132,7 +141,9 @@ impl Cursor {
     // A formula is expected: the command at the cursor, with a letter's operand, gives a refusal or the next cursor.
     fn formula(self, q: &[u8]) -> Step
         requires { ⌜ Within (now q) self × (1 ≤ self .due) ⌝ }
-        ensures { λ r. ⌜ ((s : Side) → steps (now (q .entry)) s r ≡ readFrom (now (q .entry)) s self) × Onwards (now (q .entry)) (self .at + 1) r ⌝ }
+        ensures { λ r. ⌜
+            ((s : Side) → steps (now (q .entry)) s r ≡ readFrom (now (q .entry)) s self)
+            × Onwards (now (q .entry)) (self .at + 1) r ⌝ }
     {
         let at = self.at;
         if q.len() <= at {
@@ -149,7 +160,9 @@ impl Cursor {
     // A side is expected: its command and its count.
     fn head(self, q: &[u8], side: Side) -> Step
         requires { ⌜ Within (now q) self ⌝ }
-        ensures { λ r. ⌜ (steps (now (q .entry)) side r ≡ read (drop (self .at) (now (q .entry))) (Expected.Head side) (self .connectives) (self .at)) × Onwards (now (q .entry)) 0 r ⌝ }
+        ensures { λ r. ⌜
+            (steps (now (q .entry)) side r ≡ readAt (now (q .entry)) (Expected.Head side) self)
+            × Onwards (now (q .entry)) 0 r ⌝ }
     {
         let at = self.at;
         if q.len() <= at {
@@ -175,7 +188,9 @@ impl Cursor {
     // All formulas that are due.
     fn formulas(self, q: &[u8]) -> Step
         requires { ⌜ Within (now q) self ⌝ }
-        ensures { λ r. ⌜ ((s : Side) → passes (now (q .entry)) s r ≡ readFrom (now (q .entry)) s self) × Onwards (now (q .entry)) 0 r ⌝ }
+        ensures { λ r. ⌜
+            ((s : Side) → passes (now (q .entry)) s r ≡ readFrom (now (q .entry)) s self)
+            × Onwards (now (q .entry)) 0 r ⌝ }
     {
         let mut cursor = self;
         while 0 < cursor.due {
@@ -195,7 +210,9 @@ impl Cursor {
     // A side with its formulas.
     fn side(self, q: &[u8], side: Side) -> Step
         requires { ⌜ Within (now q) self ⌝ }
-        ensures { λ r. ⌜ (passes (now (q .entry)) side r ≡ read (drop (self .at) (now (q .entry))) (Expected.Head side) (self .connectives) (self .at)) × Onwards (now (q .entry)) 0 r ⌝ }
+        ensures { λ r. ⌜
+            (passes (now (q .entry)) side r ≡ readAt (now (q .entry)) (Expected.Head side) self)
+            × Onwards (now (q .entry)) 0 r ⌝ }
     {
         let step = self.head(q, side);
         match step {
@@ -207,7 +224,7 @@ impl Cursor {
     // The end is expected.
     fn end(self, q: &[u8]) -> Reading
         requires { ⌜ Within (now q) self ⌝ }
-        ensures { λ r. ⌜ readingOf r ≡ read (drop (self .at) (now (q .entry))) Expected.End (self .connectives) (self .at) ⌝ }
+        ensures { λ r. ⌜ readingOf r ≡ readAt (now (q .entry)) Expected.End self ⌝ }
     {
         if self.at < q.len() {
             return Reading::Refused(Refusal::LeftOver(self.at));
@@ -218,7 +235,7 @@ impl Cursor {
     // The right side is expected, then the end.
     fn right_side(self, q: &[u8]) -> Reading
         requires { ⌜ Within (now q) self ⌝ }
-        ensures { λ r. ⌜ readingOf r ≡ read (drop (self .at) (now (q .entry))) (Expected.Head Side.Right) (self .connectives) (self .at) ⌝ }
+        ensures { λ r. ⌜ readingOf r ≡ readAt (now (q .entry)) (Expected.Head Side.Right) self ⌝ }
     {
         let step = self.side(q, Side::Right);
         match step {

@@ -111,7 +111,11 @@ fn one(yes: bool) -> usize
 
 // The formulas of a side of an accepted question, at the end of that side.
 fn load(q: &[u8], s: Running, side: Side) -> Running
-    requires { ⌜ (reading (now q) ≡ accepted) × Good (now q) s × (view side s ≡ []) × (length (view (other side) s) ≤ FORMULAS) ⌝ }
+    requires { ⌜
+        (reading (now q) ≡ accepted)
+        × Good (now q) s
+        × (view side s ≡ [])
+        × (length (view (other side) s) ≤ FORMULAS) ⌝ }
     ensures { λ r. ⌜ Loaded (now (q .entry)) side (length (on-side side (question (now (q .entry))))) s r ⌝ }
 {
     let mut at = question::side_start(q, side);

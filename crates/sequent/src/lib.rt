@@ -10,7 +10,8 @@ ghost use Rattle.calculus.specs.Syntax.{Connective, other, size};
 ghost use Rattle.calculus.specs.Bytes.{CONNECTIVE, code};
 ghost use Rattle.calculus.specs.Table.{table, splice, premise};
 ghost use Rattle.question.specs.Positions.{Well, formulaAt};
-ghost use Rattle.sequent.specs.View.{slotOf, countOf, maskOf, view, settled, partsView, Stands, Opened, Shut, Changed, bitOf, Sorted, Good, Compounds, Pushed, places};
+ghost use Rattle.sequent.specs.View.{slotOf, countOf, maskOf, view, settled, partsView, Stands, Opened, Shut};
+ghost use Rattle.sequent.specs.View.{Changed, bitOf, Sorted, Good, Compounds, Pushed, places};
 ghost use Rattle.sequent.specs.Rule.{sideCode, partsOn, premisesOf, sided, placed};
 
 // Formulas by their positions in the question's bytes: the left side from the front of `items`, the right side from the
@@ -191,7 +192,12 @@ impl Running {
 
     // The formula at a place makes way for the parts.
     pub fn replace(self, side: Side, at: usize, parts: Parts) -> Running
-        requires { ⌜ (at < countOf side self) × (self .lefts + self .rights ≤ ROOM) × (self .lefts + self .rights + parts .count ≤ ROOM + 1) × (parts .count ≤ 2) × (parts .count ≡ 0 → parts .mask ≡ 0) ⌝ }
+        requires { ⌜
+            (at < countOf side self)
+            × (self .lefts + self .rights ≤ ROOM)
+            × (self .lefts + self .rights + parts .count ≤ ROOM + 1)
+            × (parts .count ≤ 2)
+            × (parts .count ≡ 0 → parts .mask ≡ 0) ⌝ }
         ensures { λ r. ⌜ Changed side (splice at (partsView parts) (view side self)) (parts .mask) self r ⌝ }
     {
         let k = parts.count;
@@ -204,7 +210,10 @@ impl Running {
 
     // The parts go to the end of a side.
     pub fn append(mut self, side: Side, parts: Parts) -> Running
-        requires { ⌜ (self .lefts + self .rights + parts .count ≤ ROOM) × (parts .count ≤ 2) × (parts .count ≡ 0 → parts .mask ≡ 0) ⌝ }
+        requires { ⌜
+            (self .lefts + self .rights + parts .count ≤ ROOM)
+            × (parts .count ≤ 2)
+            × (parts .count ≡ 0 → parts .mask ≡ 0) ⌝ }
         ensures { λ r. ⌜ Changed side (view side self ++ partsView parts) (parts .mask) self r ⌝ }
     {
         let n = self.count(side);
@@ -279,7 +288,12 @@ fn parts_on(q: &[u8], side: Side, p: Placing, f: u8, g: u8) -> Parts
 impl Running {
     // A premise: the parts of its side take the place, the others go to the end of their side.
     pub fn premise(self, q: &[u8], side: Side, at: usize, p: Placing, f: u8, g: u8) -> Running
-        requires { ⌜ Good (now q) self × Stands (now q) f × Stands (now q) g × Compounds (now q) side at self × (size (premise side at (places self) (placed p f g)) ≤ ROOM) ⌝ }
+        requires { ⌜
+            Good (now q) self
+            × Stands (now q) f
+            × Stands (now q) g
+            × Compounds (now q) side at self
+            × (size (premise side at (places self) (placed p f g)) ≤ ROOM) ⌝ }
         ensures { λ r. ⌜ (places r ≡ premise side at (places self) (placed p f g)) × Good (now (q .entry)) r ⌝ }
     {
         let kept = parts_on(q, side, p, f, g);

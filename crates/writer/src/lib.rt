@@ -58,7 +58,10 @@ fn command_of(side: Side, b: u8) -> u8
 // The command that reduces the compound at p, at a place of a side.
 fn put_reduction(q: &[u8], buffer: &mut [u8], at: usize, side: Side, place: usize, p: u8) -> usize
     requires { ⌜ (at + 2 ≤ length (now buffer)) × (place < ROOM) × Stands (now q) p × IsCompound (formulaAt (now q) p) ⌝ }
-    ensures { λ r. ⌜ (r ≡ at + 2) × (now (buffer .exit) ≡ laid (now (buffer .entry)) at (orderCode (REDUCE side (compoundAt (now (q .entry)) p .connective)) ∷ place ∷ [])) ⌝ }
+    ensures { λ r. ⌜
+        (r ≡ at + 2)
+        × (now (buffer .exit)
+        ≡ laid (now (buffer .entry)) at (orderCode (REDUCE side (compoundAt (now (q .entry)) p .connective)) ∷ place ∷ [])) ⌝ }
 {
     let b = q[wide(p)];
     put(buffer, at, command_of(side, b), place as u8)
@@ -72,8 +75,13 @@ fn wide(p: u8) -> usize
 
 // The derivation of a theorem from a place on; answers the place behind it.
 fn emit(q: &[u8], s: Running, buffer: &mut [u8], at: usize) -> usize
-    requires { ⌜ Good (now q) s × (tree (sequentOf (now q) s) .end ≡ Kind.Theorem) × (at + length (derivation (sequentOf (now q) s)) ≤ length (now buffer)) ⌝ }
-    ensures { λ r. ⌜ (r ≡ at + length (derivation (sequentOf (now (q .entry)) s))) × (now (buffer .exit) ≡ laid (now (buffer .entry)) at (derivation (sequentOf (now (q .entry)) s))) ⌝ }
+    requires { ⌜
+        Good (now q) s
+        × (tree (sequentOf (now q) s) .end ≡ Kind.Theorem)
+        × (at + length (derivation (sequentOf (now q) s)) ≤ length (now buffer)) ⌝ }
+    ensures { λ r. ⌜
+        (r ≡ at + length (derivation (sequentOf (now (q .entry)) s)))
+        × (now (buffer .exit) ≡ laid (now (buffer .entry)) at (derivation (sequentOf (now (q .entry)) s))) ⌝ }
 {
     let due = prover::step(q, s, 1);
     match due {
@@ -93,8 +101,14 @@ fn emit_reduction(
     place: usize,
     p: u8,
 ) -> usize
-    requires { ⌜ Good (now q) s × (tree (sequentOf (now q) s) .end ≡ Kind.Theorem) × (at + length (derivation (sequentOf (now q) s)) ≤ length (now buffer)) × IsDue (now q) s 1 side place p ⌝ }
-    ensures { λ r. ⌜ (r ≡ at + length (derivation (sequentOf (now (q .entry)) s))) × (now (buffer .exit) ≡ laid (now (buffer .entry)) at (derivation (sequentOf (now (q .entry)) s))) ⌝ }
+    requires { ⌜
+        Good (now q) s
+        × (tree (sequentOf (now q) s) .end ≡ Kind.Theorem)
+        × (at + length (derivation (sequentOf (now q) s)) ≤ length (now buffer))
+        × IsDue (now q) s 1 side place p ⌝ }
+    ensures { λ r. ⌜
+        (r ≡ at + length (derivation (sequentOf (now (q .entry)) s)))
+        × (now (buffer .exit) ≡ laid (now (buffer .entry)) at (derivation (sequentOf (now (q .entry)) s))) ⌝ }
 {
     let i = put_reduction(q, buffer, at, side, place, p);
     let how = reduction::reduction_of(q, p, side);
@@ -133,7 +147,9 @@ fn write_out(q: &[u8], v: Verdict, buffer: &mut [u8]) -> Answer
 pub fn derive(q: &[u8], budget: u64, buffer: &mut [u8]) -> Answer
     ensures reply { λ r. ⌜ answerOf r ≡ derive (now (q .entry)) budget (now (buffer .entry)) .reply ⌝ }
     ensures written { λ r. ⌜ now (buffer .exit) ≡ derive (now (q .entry)) budget (now (buffer .entry)) .buffer ⌝ }
-    ensures evidence { λ r. ⌜ ((n : ℕ) (v : Verdict) → r ≡ Answer.Written n v → (v .kind ≡ Kind.Theorem) × Evidence (now (q .entry)) (take n (now (buffer .exit)))) ⌝ }
+    ensures evidence { λ r. ⌜
+        ((n : ℕ) (v : Verdict) → r ≡ Answer.Written n v
+        → (v .kind ≡ Kind.Theorem) × Evidence (now (q .entry)) (take n (now (buffer .exit)))) ⌝ }
 {
     let reading = question::read(q);
     match reading {
