@@ -567,7 +567,8 @@ fn load(q: &[u8], nodes: &mut [u32; 48], queue: &mut [u8], side: Side, start: Lo
     l
 }
 
-// Decides an accepted question under a budget. The right side starts two bytes behind the left side's formulas.
+// Decides an accepted question under a budget. The right side starts two bytes behind the left side's formulas. The whole is
+// run as a premise that places nothing.
 pub fn run_question(q: &[u8], budget: u64) -> Outcome
     requires { ⌜ reading (now q) ≡ accepted ⌝ }
     ensures { λ r. ⌜ r ≡ outcome budget (question (now (q .entry))) ⌝ }
