@@ -2,7 +2,9 @@
 use calculus::Kind;
 use calculus::Outcome;
 use calculus::Side;
+use question::LETTERS;
 use sequent::Placing;
+use sequent::ROOM;
 use sequent::Rule;
 ghost use mathlib.Core.Path.{_≡_};
 ghost use mathlib.Core.List.{_++_};
@@ -62,12 +64,7 @@ pub enum Answer {
     Reduce(Reduction),
 }
 
-// A name is a letter, or one of the connectives above it.
-const LETTERS: u8 = 32;
-
-const ROOM: usize = 80;
-
-// ---- the parts of a premise
+// ---- the parts of a premise, by name: a letter is its own name, a connective is named by its number above the letters
 
 fn bit(wanted: bool, name: u8) -> u64
     requires { ⌜ name < LETTERS + CONNECTIVES ⌝ }

@@ -4,6 +4,7 @@ use calculus::Verdict;
 use question::Reading;
 use question::Refusal;
 use reduction::Place;
+use sequent::ROOM;
 use sequent::Rule;
 use sequent::Running;
 ghost use mathlib.Core.Path.{_≡_};
@@ -17,8 +18,6 @@ ghost use Rattle.sequent.specs.View.{sequentOf, Good};
 ghost use Rattle.reduction.specs.Reduction.{compoundAt, FoundAt, overfullOf};
 ghost use Rattle.prover.specs.Answers.{decisionOf, Promised};
 ghost use Rattle.prover.specs.Inner.{innerOf, Ready, Stepped};
-
-const ROOM: usize = 80;
 
 // What is due at a sequent, with the reductions left.
 pub enum Due {

@@ -11,7 +11,8 @@ ghost use Rattle.calculus.specs.Syntax.{on-side};
 ghost use Rattle.calculus.specs.Bytes.{SIDE, code, formulas, bytesAll, question, sideStart};
 ghost use Rattle.calculus.specs.Reading.{accepted, reading};
 ghost use Rattle.calculus.specs.Reply.{formulaPart, formulaBytes};
-ghost use Rattle.question.specs.Answers.{numberOf, placeOf, readingOf, begun, Within, Onwards, readAt, readFrom, steps, passes};
+ghost use Rattle.question.specs.Answers.{numberOf, placeOf, readingOf, begun, Within, Onwards};
+ghost use Rattle.question.specs.Answers.{readAt, readFrom, steps, passes};
 ghost use Rattle.question.specs.Positions.{Well, endOf, commandLength, dueAfter, partBytes};
 
 // The limits of document 01.

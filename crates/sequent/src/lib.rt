@@ -44,6 +44,9 @@ pub struct Rule {
     pub second: Placing,
 }
 
+// The formulas that a running sequent holds at most.
+pub const ROOM: usize = 80;
+
 const L: u8 = 1;
 
 const R: u8 = 2;
