@@ -8,15 +8,19 @@ use prover::Decision;
 use question::Reading;
 use question::Refusal;
 ghost use mathlib.Core.Path.{_≡_};
+ghost use mathlib.Core.Logic.{_↔_};
 ghost use mathlib.Core.List.{[], _∷_};
 ghost use Prim.Native.Nat.{ℕ};
 ghost use lib.ListN.{take};
 ghost use Rattle.calculus.specs.Bytes.{question};
 ghost use Rattle.calculus.specs.Reading.{accepted, reading};
 ghost use Rattle.calculus.specs.Truth.{Valid};
-ghost use Rattle.calculus.specs.Reply.{decideReply, widthReply, formulaBytes, derive, checkReply};
+ghost use Rattle.calculus.specs.Derivation.{Derivation};
+ghost use Rattle.calculus.specs.Reply.{decideReply, widthReply, formulaPart, formulaBytes, derive, checkReply};
 ghost use Rattle.question.specs.Answers.{numberOf, placeOf};
-ghost use Rattle.width.specs.Answers.{widthOf};
+ghost use Rattle.question.specs.Positions.{partBytes};
+ghost use Rattle.width.specs.Answers.{widthOf, Sized};
+ghost use Rattle.width.specs.declared.Answer.the-variants.{Of};
 ghost use Rattle.prover.specs.Answers.{decisionOf, Promised};
 ghost use Rattle.writer.specs.Answers.{unproved, answerOf, Evidence};
 ghost use Rattle.checker.specs.Answers.{faultNumber, faultPlace, checkOf};
@@ -35,14 +39,16 @@ pub fn decide(q: &[u8], budget: u64) -> Decision
 
 // The width of a question, and its connectives.
 pub fn width_of(q: &[u8]) -> width::Answer
-    ensures { λ r. ⌜ widthOf r ≡ widthReply (now (q .entry)) ⌝ }
+    ensures reply { λ r. ⌜ widthOf r ≡ widthReply (now (q .entry)) ⌝ }
+    ensures sized { λ r. ⌜ ((w n : ℕ) → r ≡ Of w n → Sized (now (q .entry)) w n) ⌝ }
 {
     width::width(q)
 }
 
 // The formula at a place of a side: a part of the question.
 pub fn formula(q: &[u8], side: Side, place: usize) -> &[u8]
-    ensures { λ r. ⌜ now r ≡ formulaBytes (now (q .entry)) side place ⌝ }
+    ensures own { λ r. ⌜ now r ≡ formulaBytes (now (q .entry)) side place ⌝ }
+    ensures part { λ r. ⌜ now r ≡ partBytes (formulaPart (now (q .entry)) side place) (now (q .entry)) ⌝ }
 {
     question::formula(q, side, place)
 }
@@ -62,6 +68,9 @@ pub fn derive(q: &[u8], budget: u64, buffer: &mut [u8]) -> writer::Answer
 pub fn check(q: &[u8], derivation: &[u8]) -> checker::Answer
     ensures reply { λ r. ⌜ checkOf r ≡ checkReply (now (q .entry)) (now (derivation .entry)) ⌝ }
     ensures sound { λ r. ⌜ (r ≡ Passes → (reading (now (q .entry)) ≡ accepted) × Valid (question (now (q .entry)))) ⌝ }
+    ensures exactly { λ r. ⌜
+        (r ≡ Passes)
+        ↔ ((reading (now (q .entry)) ≡ accepted) × Derivation (question (now (q .entry))) (now (derivation .entry))) ⌝ }
 {
     checker::check(q, derivation)
 }
