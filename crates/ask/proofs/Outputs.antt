@@ -1,21 +1,23 @@
--- The lines that are printed, from what the calls answer.
+-- The text that is printed, from what the calls answer.
 -- Assumes nothing.
-use mathlib.Core.Path.{_≡_, refl, sym, ap, _∙_, subst}
+use mathlib.Core.Path.{_≡_, refl, sym, ap, _∙_}
 use mathlib.Core.Bool.{Bool, true, false}
 use mathlib.Core.List.{List, [], _∷_, _++_}
-use Prim.Native.Nat.{ℕ}
+use Prim.Native.Nat.{ℕ, _≤_}
 use native.Mathlib.Omega.{arith}
 use lib.Dec.{ltb}
 use lib.ListN.{length, take, drop, length-append}
 use lib.Seq.{take-at}
+use borrow.Author.Tests.{ltb-false}
 use types.Run.{OneOf, miss}
 use denote.Enum.Declared.{tagOf}
 use Rattle.calculus.specs.declared.Kind.{Kind}
-use Rattle.calculus.specs.declared.Kind.the-variants.{Theorem as IsTheorem, Refuted as IsRefuted, Spent as IsSpent, Full as IsFull}
+use Rattle.calculus.specs.declared.Kind.the-variants.{Theorem, Refuted, Spent, Full}
 use Rattle.calculus.specs.declared.Verdict.{Verdict}
 use Rattle.calculus.specs.Fold.{choose}
 use Rattle.calculus.specs.Syntax.{c}
 use Rattle.calculus.specs.Bytes.{question}
+use Rattle.calculus.specs.Limits.{NO-SPACE}
 use Rattle.calculus.specs.Reading.{Reading, accepted, refused, reading}
 use Rattle.calculus.specs.Tree.{verdict}
 use Rattle.calculus.specs.Width.{W}
@@ -24,16 +26,15 @@ use Rattle.calculus.specs.Reply.{Reply, ifRead, widthReply, derive, Written as 
 use Rattle.question.specs.Answers.{numberOf, placeOf}
 use Rattle.question.specs.declared.Refusal.{Refusal}
 use Rattle.width.specs.Answers.{widthOf}
-use Rattle.width.specs.declared.Answer.the-variants.{Refused as NoWidth, Of}
+use Rattle.width.specs.declared.Measure.the-variants.{Refused as NoWidth, Of}
 use Rattle.writer.specs.Answers.{answerOf}
-use Rattle.writer.specs.declared.Answer.{Answer}
-use Rattle.writer.specs.declared.Answer.the-variants.{Refused as Unread, NotProved, NoSpace, Written}
-use Rattle.writer.proofs.Answer.{the-type}
-use Rattle.ask.specs.declared.Line.{Line}
-use Rattle.ask.specs.declared.Line.the-variants.{Refused}
-use Rattle.ask.specs.Output.{BUDGET, readLine, kindBytes, readBytes, derivationLine, Shown}
+use Rattle.writer.specs.declared.Writing.{Writing}
+use Rattle.writer.specs.declared.Writing.the-variants.{Refused, NotProved, NoSpace, Written}
+use Rattle.writer.proofs.Writing.{the-type}
+use Rattle.print.specs.Text.{ascii, newline, hexadecimal}
+use Rattle.ask.specs.Output.{BUDGET, BUFFER, derivationLine}
 
--- ---- the first line
+-- ---- what the width call answers tells how the question is read
 
 pub width-read : (q : List ℕ) (w n : ℕ) → widthOf (Of w n) ≡ widthReply q → (reading q ≡ accepted) × (w ≡ W (question q))
 width-read q w n e = go (reading q) e
@@ -42,75 +43,90 @@ width-read q w n e = go (reading q) e
     go accepted e = let z = ap (λ (x : Reply). x .values) e in (refl, cc)
     go (refused m at) e = let z : _≡_ {A = ℕ} 2 1 = ap (λ (x : Reply). length (x .values)) e in absurd (omega arith)
 
-pub width-refused : (q : List ℕ) (r : Refusal) → widthOf (NoWidth r) ≡ widthReply q → (v : Verdict) (w : ℕ) → Refused (numberOf r) (placeOf r) ≡ readLine (reading q) v w
-width-refused q r e v w = go (reading q) e
+pub width-refused : (q : List ℕ) (r : Refusal) → widthOf (NoWidth r) ≡ widthReply q → reading q ≡ refused (numberOf r) (placeOf r)
+width-refused q r e = go (reading q) e
   where
-    go : (t : Reading) → widthOf (NoWidth r) ≡ ifRead t (record { number = 0; values = W (question q) ∷ c (question q) ∷ [] }) → Refused (numberOf r) (placeOf r) ≡ readLine t v w
+    go : (t : Reading) → widthOf (NoWidth r) ≡ ifRead t (record { number = 0; values = W (question q) ∷ c (question q) ∷ [] }) → t ≡ refused (numberOf r) (placeOf r)
     go accepted e = let z : _≡_ {A = ℕ} 1 2 = ap (λ (x : Reply). length (x .values)) e in absurd (omega arith)
     go (refused m at) e =
         let n : numberOf r ≡ m = ap (λ (x : Reply). x .number) e in
         let z = ap (λ (x : Reply). x .values) e in
         let p : placeOf r ≡ at = cc in
-        ap (λ (k : ℕ). Refused k (placeOf r)) n ∙ ap (λ (k : ℕ). Refused m k) p
+        cc
 
--- ---- the second line
+-- ---- a theorem's derivation
 
-module _ (q : List ℕ) (old new : List ℕ) where
-  pub written-line : (n : ℕ) (v : Verdict) → reading q ≡ accepted → answerOf (Written n v) ≡ derive q BUDGET old .reply → new ≡ derive q BUDGET old .buffer → Shown (derivationLine q (length old)) n new
-  written-line n v a e w =
-      let out : derive q BUDGET old ≡ writeIf accepted (question q) BUDGET old = ap (λ (t : Reading). writeIf t (question q) BUDGET old) a in
-      subst (λ (t : Reading). Shown (readBytes t (question q) (length old)) n new) (sym a)
-      (go (verdict BUDGET (question q) .kind) (verdict BUDGET (question q) .reductions) (verdict BUDGET (question q) .closings) (derivation (question q)) (e ∙ ap (λ (x : Wrote). x .reply) out) (w ∙ ap (λ (x : Wrote). x .buffer) out))
-    where
-      fit : (r k : ℕ) (ds : List ℕ) (b : Bool) → answerOf (Written n v) ≡ choose {A = Wrote} b (record { reply = record { number = 11; values = length ds ∷ [] }; buffer = old }) (record { reply = record { number = 0; values = length ds ∷ r ∷ k ∷ [] }; buffer = ds ++ drop (length ds) old }) .reply
-          → new ≡ choose {A = Wrote} b (record { reply = record { number = 11; values = length ds ∷ [] }; buffer = old }) (record { reply = record { number = 0; values = length ds ∷ r ∷ k ∷ [] }; buffer = ds ++ drop (length ds) old }) .buffer
-          → Shown (choose b [] ds) n new
-      fit r k ds true e w = let z : _≡_ {A = ℕ} 0 11 = ap (λ (x : Reply). x .number) e in absurd (omega arith)
-      fit r k ds false e w =
-          let z = ap (λ (x : Reply). x .values) e in
-          let l : n ≡ length ds = cc in
-          record {
-            fits = omega (arith, ap length w, length-append ds (drop (length ds) old));
-            long = l;
-            bytes = ap (take n) w ∙ take-at ds (drop (length ds) old) n (sym l);
-          }
+-- what the writer makes of a theorem with counts r and k and the derivation ds: there is no space for it, or it is laid out
+abbrev noSpace : List ℕ → List ℕ → Wrote
+noSpace ds old = record { reply = record { number = NO-SPACE; values = length ds ∷ [] }; buffer = old }
 
-      go : (x : Kind) (r k : ℕ) (ds : List ℕ) → answerOf (Written n v) ≡ writeOut x r k ds old .reply → new ≡ writeOut x r k ds old .buffer → Shown (kindBytes x ds (length old)) n new
-      go IsTheorem r k ds e w = fit r k ds (ltb (length old) (length ds)) e w
-      go (IsRefuted σ) r k ds e w = let z : _≡_ {A = ℕ} 0 10 = ap (λ (x : Reply). x .number) e in absurd (omega arith)
-      go IsSpent r k ds e w = let z : _≡_ {A = ℕ} 0 9 = ap (λ (x : Reply). x .number) e in absurd (omega arith)
-      go IsFull r k ds e w = let z : _≡_ {A = ℕ} 0 8 = ap (λ (x : Reply). x .number) e in absurd (omega arith)
+abbrev laidOut : ℕ → ℕ → List ℕ → List ℕ → Wrote
+laidOut r k ds old = record { reply = record { number = 0; values = length ds ∷ r ∷ k ∷ [] }; buffer = ds ++ drop (length ds) old }
 
-  -- an answer that nothing was written has no number 0 with three values
-  unwritten : (r : Answer) → OneOf (0 ∷ 1 ∷ 2 ∷ []) (tagOf the-type r) → (n j k : ℕ) → answerOf r ≡ record { number = 0; values = n ∷ j ∷ k ∷ [] } → ⊥
-  unwritten (Unread r) o n j k e = let z : _≡_ {A = ℕ} 1 3 = ap (λ (x : Reply). length (x .values)) e in omega arith
-  unwritten (NotProved v) o n j k e = go (v .kind) e
-    where
-      go : (x : Kind) → answerOf (NotProved (record { kind = x; reductions = v .reductions; closings = v .closings })) ≡ record { number = 0; values = n ∷ j ∷ k ∷ [] } → ⊥
-      go IsTheorem e = let z : _≡_ {A = ℕ} 2 3 = ap (λ (x : Reply). length (x .values)) e in omega arith
-      go (IsRefuted σ) e = let z : _≡_ {A = ℕ} 10 0 = ap (λ (x : Reply). x .number) e in omega arith
-      go IsSpent e = let z : _≡_ {A = ℕ} 9 0 = ap (λ (x : Reply). x .number) e in omega arith
-      go IsFull e = let z : _≡_ {A = ℕ} 8 0 = ap (λ (x : Reply). x .number) e in omega arith
-  unwritten (NoSpace m) o n j k e = let z : _≡_ {A = ℕ} 11 0 = ap (λ (x : Reply). x .number) e in omega arith
-  unwritten (Written m v) o n j k e = absurd (miss (0 ∷ 1 ∷ 2 ∷ []) 3 tt o)
+proved : (q old : List ℕ) → reading q ≡ accepted → verdict BUDGET (question q) .kind ≡ Theorem
+    → derive q BUDGET old ≡ writeOut Theorem (verdict BUDGET (question q) .reductions) (verdict BUDGET (question q) .closings) (derivation (question q)) old
+proved q old a t =
+    let v : Verdict = verdict BUDGET (question q) in
+    ap (λ (x : Reading). writeIf x (question q) BUDGET old) a ∙ ap (λ (x : Kind). writeOut x (v .reductions) (v .closings) (derivation (question q)) old) t
 
-  pub no-line : (r : Answer) → OneOf (0 ∷ 1 ∷ 2 ∷ []) (tagOf the-type r) → answerOf r ≡ derive q BUDGET old .reply → Shown (derivationLine q (length old)) 0 new
-  no-line r o e = subst (λ (ds : List ℕ). Shown ds 0 new) (sym (none (reading q) e)) (record { fits = omega arith; long = refl; bytes = start new })
-    where
-      start : (l : List ℕ) → take 0 l ≡ []
-      start [] = refl
-      start (x ∷ l) = refl
+-- n bytes of a buffer hold the derivation ds, and it has its line
+pub record Shown (ds : List ℕ) (n : ℕ) (buffer : List ℕ) : Type 0 where
+  pub fits : n ≤ BUFFER
+  pub inside : n ≤ length buffer
+  pub whole : n ≡ length (take n buffer)
+  pub text : hexadecimal (take n buffer) ++ newline ≡ derivationLine ds
 
-      fit : (b : Bool) (j k : ℕ) (ds : List ℕ) → answerOf r ≡ choose {A = Wrote} b (record { reply = record { number = 11; values = length ds ∷ [] }; buffer = old }) (record { reply = record { number = 0; values = length ds ∷ j ∷ k ∷ [] }; buffer = ds ++ drop (length ds) old }) .reply → choose b [] ds ≡ []
-      fit true j k ds e = refl
-      fit false j k ds e = absurd (unwritten r o (length ds) j k e)
+shown : (r k : ℕ) (ds old new : List ℕ) (n : ℕ) (v : Verdict) → length old ≡ BUFFER → answerOf (Written n v) ≡ writeOut Theorem r k ds old .reply → new ≡ writeOut Theorem r k ds old .buffer → Shown ds n new
+shown r k ds old new n v room e w = go (ltb (length old) (length ds)) refl e w
+  where
+    go : (b : Bool) → ltb (length old) (length ds) ≡ b
+        → answerOf (Written n v) ≡ choose b (noSpace ds old) (laidOut r k ds old) .reply
+        → new ≡ choose b (noSpace ds old) (laidOut r k ds old) .buffer
+        → Shown ds n new
+    go true t e w = let z : _≡_ {A = ℕ} 0 11 = ap (λ (x : Reply). x .number) e in absurd (omega arith)
+    go false t e w =
+        let z = ap (λ (x : Reply). x .values) e in
+        let l : n ≡ length ds = cc in
+        let bytes : take n new ≡ ds = ap (take n) w ∙ take-at ds (drop (length ds) old) n (sym l) in
+        let none : ltb BUFFER (length ds) ≡ false = ap (λ (m : ℕ). ltb m (length ds)) (sym room) ∙ t in
+        record {
+          fits = omega (arith, ltb-false (length old) (length ds) t);
+          inside = omega (arith, ap length w, length-append ds (drop (length ds) old));
+          whole = l ∙ ap length (sym bytes);
+          text = ap (λ (l : List ℕ). hexadecimal l ++ newline) bytes ∙ ap (λ (b : Bool). choose b (ascii "no space") (hexadecimal ds) ++ newline) (sym none);
+        }
 
-      kinds : (x : Kind) (j k : ℕ) (ds : List ℕ) → answerOf r ≡ writeOut x j k ds old .reply → kindBytes x ds (length old) ≡ []
-      kinds IsTheorem j k ds e = fit (ltb (length old) (length ds)) j k ds e
-      kinds (IsRefuted σ) j k ds e = refl
-      kinds IsSpent j k ds e = refl
-      kinds IsFull j k ds e = refl
+pub written-line : (q old new : List ℕ) (n : ℕ) (v : Verdict) → reading q ≡ accepted → verdict BUDGET (question q) .kind ≡ Theorem → length old ≡ BUFFER
+    → answerOf (Written n v) ≡ derive q BUDGET old .reply → new ≡ derive q BUDGET old .buffer → Shown (derivation (question q)) n new
+written-line q old new n v a t room e w =
+    let p = proved q old a t in
+    shown _ _ (derivation (question q)) old new n v room (e ∙ ap (λ (x : Wrote). x .reply) p) (w ∙ ap (λ (x : Wrote). x .buffer) p)
 
-      none : (t : Reading) → answerOf r ≡ writeIf t (question q) BUDGET old .reply → readBytes t (question q) (length old) ≡ []
-      none accepted e = kinds (verdict BUDGET (question q) .kind) (verdict BUDGET (question q) .reductions) (verdict BUDGET (question q) .closings) (derivation (question q)) e
-      none (refused m at) e = refl
+-- an answer that nothing was written has no number 0 with three values
+unwritten : (r : Writing) → OneOf (0 ∷ 1 ∷ 2 ∷ []) (tagOf the-type r) → (n j k : ℕ) → answerOf r ≡ record { number = 0; values = n ∷ j ∷ k ∷ [] } → ⊥
+unwritten (Refused r) o n j k e = let z : _≡_ {A = ℕ} 1 3 = ap (λ (x : Reply). length (x .values)) e in omega arith
+unwritten (NotProved v) o n j k e = go (v .kind) e
+  where
+    go : (x : Kind) → answerOf (NotProved (record { kind = x; reductions = v .reductions; closings = v .closings })) ≡ record { number = 0; values = n ∷ j ∷ k ∷ [] } → ⊥
+    go Theorem e = let z : _≡_ {A = ℕ} 2 3 = ap (λ (x : Reply). length (x .values)) e in omega arith
+    go (Refuted σ) e = let z : _≡_ {A = ℕ} 10 0 = ap (λ (x : Reply). x .number) e in omega arith
+    go Spent e = let z : _≡_ {A = ℕ} 9 0 = ap (λ (x : Reply). x .number) e in omega arith
+    go Full e = let z : _≡_ {A = ℕ} 8 0 = ap (λ (x : Reply). x .number) e in omega arith
+unwritten (NoSpace m) o n j k e = let z : _≡_ {A = ℕ} 11 0 = ap (λ (x : Reply). x .number) e in omega arith
+unwritten (Written m v) o n j k e = absurd (miss (0 ∷ 1 ∷ 2 ∷ []) 3 tt o)
+
+long : (a : Writing) → OneOf (0 ∷ 1 ∷ 2 ∷ []) (tagOf the-type a) → (r k : ℕ) (ds old : List ℕ) → answerOf a ≡ writeOut Theorem r k ds old .reply → ltb (length old) (length ds) ≡ true
+long a o r k ds old e = go (ltb (length old) (length ds)) e
+  where
+    go : (b : Bool)
+        → answerOf a ≡ choose b (noSpace ds old) (laidOut r k ds old) .reply
+        → b ≡ true
+    go true e = refl
+    go false e = absurd (unwritten a o (length ds) r k e)
+
+pub no-line : (q old : List ℕ) (r : Writing) → OneOf (0 ∷ 1 ∷ 2 ∷ []) (tagOf the-type r) → reading q ≡ accepted → verdict BUDGET (question q) .kind ≡ Theorem → length old ≡ BUFFER
+    → answerOf r ≡ derive q BUDGET old .reply → ascii "no space" ++ newline ≡ derivationLine (derivation (question q))
+no-line q old r o a t room e =
+    let ds : List ℕ = derivation (question q) in
+    let over = long r o _ _ ds old (e ∙ ap (λ (x : Wrote). x .reply) (proved q old a t)) in
+    ap (λ (b : Bool). choose b (ascii "no space") (hexadecimal ds) ++ newline) (sym (ap (λ (m : ℕ). ltb m (length ds)) (sym room) ∙ over))

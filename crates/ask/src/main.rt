@@ -1,115 +1,98 @@
 // Decides the question on standard input, and prints its verdict and a theorem's derivation.
 use calculus::Kind;
 use calculus::Verdict;
-use question::Reading;
 ghost use mathlib.Core.Path.{_≡_};
-ghost use Prim.Native.Nat.{ℕ, _≤_};
-ghost use lib.ListN.{length, take};
-ghost use Rattle.calculus.specs.Tree.{verdict};
+ghost use mathlib.Core.List.{_++_};
+ghost use Prim.Native.Nat.{_+_, _*_, _≤_};
+ghost use lib.ListN.{length, drop};
 ghost use Rattle.calculus.specs.Bytes.{question};
+ghost use Rattle.calculus.specs.Derivation.{derivation};
 ghost use Rattle.calculus.specs.Reading.{reading, accepted};
-ghost use Rattle.ask.specs.Output.{answerLine, kindLine, derivationLine, Shown};
+ghost use Rattle.calculus.specs.Tree.{verdict};
+ghost use Rattle.print.specs.Text.{Put};
+ghost use Rattle.ask.specs.Output.{INPUT, BUDGET, BUFFER, TEXT, derivationLine, verdictText, askText};
+
+// The bytes read: those of the longest question, and one more.
+const INPUT: usize = question::LONGEST_QUESTION + 1;
 
 const BUDGET: u64 = 1000000;
 
-// The first line: a word, and the numbers behind it.
-enum Line {
-    // Reductions, closings and the width.
-    Theorem(u64, u64, u64),
-    // The state, reductions, closings and the width.
-    Refuted(u64, u64, u64, u64),
-    Spent(u64, u64, u64),
-    Full(u64, u64, u64),
-    // Number and place.
-    Refused(u64, u64),
-}
+// The bytes of the derivation's buffer.
+const BUFFER: usize = 4096;
 
-fn verdict_line(v: Verdict, w: u64) -> Line
-    ensures { λ r. ⌜ r ≡ kindLine (v .kind) (v .reductions) (v .closings) w ⌝ }
+// The bytes of the longest text: a line of a word and four numbers, and the derivation's.
+const TEXT: usize = 100 + 3 * BUFFER;
+
+// A theorem's second line: its derivation in hexadecimal, or `no space`.
+fn put_derivation(q: &[u8], out: &mut [u8], at: usize) -> usize
+    requires { ⌜ (reading (now q) ≡ accepted) × (verdict BUDGET (question (now q)) .kind ≡ Kind.Theorem) ⌝ }
+    requires { ⌜ at + 3 * BUFFER + 9 ≤ length (now out) ⌝ }
+    ensures short { λ r. ⌜ r ≤ at + 3 * BUFFER + 9 ⌝ }
+    ensures text { λ r. ⌜
+        Put (now (out .entry)) at
+        (derivationLine (derivation (question (now (q .entry)))))
+        r (now (out .exit)) ⌝ }
 {
-    let kind = v.kind;
-    match kind {
-        Kind::Theorem => Line::Theorem(v.reductions, v.closings, w),
-        Kind::Refuted(state) => Line::Refuted(state as u64, v.reductions, v.closings, w),
-        Kind::Spent => Line::Spent(v.reductions, v.closings, w),
-        Kind::Full => Line::Full(v.reductions, v.closings, w),
+    let mut buffer = [0u8; BUFFER];
+    let answer = writer::derive(q, BUDGET, &mut buffer);
+    match answer {
+        writer::Writing::Written(n, _) => {
+            let end = n as usize;
+            print::put_bytes(&buffer[..end], out, at)
+        }
+        _ => print::put_word(b"no space\n", out, at),
     }
 }
 
-// The first line for a question.
-fn answer(q: &[u8]) -> Line
-    ensures { λ r. ⌜ r ≡ answerLine (now (q .entry)) ⌝ }
+// The text for an accepted question.
+fn put_verdict(q: &[u8], v: Verdict, w: u64, out: &mut [u8]) -> usize
+    requires { ⌜ (reading (now q) ≡ accepted) × (v ≡ verdict BUDGET (question (now q))) × (TEXT ≤ length (now out)) ⌝ }
+    ensures short { λ r. ⌜ r ≤ TEXT ⌝ }
+    ensures text { λ r. ⌜
+        Put (now (out .entry)) 0
+        (verdictText (v .kind) (v .reductions) (v .closings) w (derivation (question (now (q .entry)))))
+        r (now (out .exit)) ⌝ }
+{
+    let counts = [v.reductions, v.closings, w];
+    let kind = v.kind;
+    match kind {
+        Kind::Theorem => {
+            let end = print::put_line(b"theorem", &counts, out, 0);
+            put_derivation(q, out, end)
+        }
+        Kind::Refuted(state) => {
+            let numbers = [state as u64, v.reductions, v.closings, w];
+            print::put_line(b"refuted", &numbers, out, 0)
+        }
+        Kind::Spent => print::put_line(b"spent", &counts, out, 0),
+        Kind::Full => print::put_line(b"full", &counts, out, 0),
+    }
+}
+
+// The text for a question; answers its length.
+fn text(q: &[u8], out: &mut [u8]) -> usize
+    requires { ⌜ TEXT ≤ length (now out) ⌝ }
+    ensures long { λ r. ⌜ r ≡ length (askText (now (q .entry))) ⌝ }
+    ensures bytes { λ r. ⌜ now (out .exit) ≡ askText (now (q .entry)) ++ drop r (now (out .entry)) ⌝ }
 {
     let widths = width::width(q);
     match widths {
-        width::Answer::Refused(r) => Line::Refused(r.number() as u64, r.place() as u64),
-        width::Answer::Of(w, _) => verdict_line(prover::verdict_of(q, BUDGET), w),
+        width::Measure::Refused(r) => print::put_refused(r, out),
+        width::Measure::Of(w, _) => put_verdict(q, prover::verdict_of(q, BUDGET), w, out),
     }
 }
 
-// The derivation of a theorem, if the buffer holds it: its length, or 0.
-fn derivation(q: &[u8], buffer: &mut [u8]) -> usize
-    ensures { λ r. ⌜ Shown (derivationLine (now (q .entry)) (length (now (buffer .entry)))) r (now (buffer .exit)) ⌝ }
+// Zeros for the bytes read. Its `ensures` ties their number to the definition.
+fn input() -> [u8; INPUT]
+    ensures { λ r. ⌜ INPUT ≡ length r ⌝ }
 {
-    let answer = writer::derive(q, BUDGET, buffer);
-    match answer {
-        writer::Answer::Written(n, _) => n as usize,
-        _ => 0,
-    }
-}
-
-// The second line.
-fn show_derivation(q: &[u8]) {
-    let mut buffer = [0u8; 4096];
-    let n = derivation(q, &mut buffer);
-    if n == 0 {
-        print::word(b"no space");
-    } else {
-        print::bytes(&buffer[..n]);
-    }
-    print::end_line();
-}
-
-// Both counts and the width.
-fn counts(r: u64, k: u64, w: u64) {
-    print::number(r);
-    print::number(k);
-    print::number(w);
-    print::end_line();
-}
-
-fn show(q: &[u8]) {
-    let line = answer(q);
-    match line {
-        Line::Theorem(r, k, w) => {
-            print::word(b"theorem");
-            counts(r, k, w);
-            show_derivation(q);
-        }
-        Line::Refuted(s, r, k, w) => {
-            print::word(b"refuted");
-            print::number(s);
-            counts(r, k, w);
-        }
-        Line::Spent(r, k, w) => {
-            print::word(b"spent");
-            counts(r, k, w);
-        }
-        Line::Full(r, k, w) => {
-            print::word(b"full");
-            counts(r, k, w);
-        }
-        Line::Refused(n, p) => {
-            print::word(b"refused");
-            print::number(n);
-            print::number(p);
-            print::end_line();
-        }
-    }
+    [0; INPUT]
 }
 
 fn main() {
-    let mut bytes = [0u8; 213];
+    let mut bytes = input();
     let n = io::read_full(0, &mut bytes);
-    show(&bytes[..n]);
+    let mut out = [0u8; TEXT];
+    let end = text(&bytes[..n], &mut out);
+    print::write(&out, end);
 }

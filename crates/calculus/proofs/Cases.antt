@@ -1,4 +1,5 @@
--- The starred questions are answered as document 01 has them: one claim, which antt computes.
+-- The starred questions are answered as document 01 has them, and its numbers returned as its table has them: a claim each,
+-- which antt computes.
 -- Assumes nothing.
 use mathlib.Core.Path.{_≡_, refl}
 use mathlib.Core.Option.{Option, none, some}
@@ -10,6 +11,7 @@ use Rattle.calculus.specs.Reading.{accepted, reading}
 use Rattle.calculus.specs.Tree.{verdict}
 use Rattle.calculus.specs.Width.{W}
 use Rattle.calculus.specs.Starred.{Case, starred}
+use Rattle.calculus.specs.Numbers.{numbers}
 
 -- where the table prints a derivation
 abbrev ifPrinted : Option (List ℕ) → List ℕ → Option (List ℕ)
@@ -33,3 +35,6 @@ answered q =
 
 pub starred-right : (map (λ q. reading (q .bytes)) starred ≡ map (λ q. accepted) starred) × (map answered starred ≡ starred)
 starred-right = (refl, refl)
+
+pub numbers-right : map (λ r. r .replied) numbers ≡ map (λ r. r .printed) numbers
+numbers-right = refl

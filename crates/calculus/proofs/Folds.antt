@@ -2,7 +2,7 @@
 -- Assumes nothing.
 use mathlib.Core.Path.{_≡_, refl, sym, ap, _∙_}
 use mathlib.Core.Bool.{Bool, true, false, _&&_, _||_, or-true, true≢false, false≢true}
-use mathlib.Core.Option.{none, some}
+use mathlib.Core.Option.{some}
 use mathlib.Core.List.{List, [], _∷_, _++_, map}
 use Prim.Native.Nat.{ℕ, _+_}
 use native.Mathlib.Nat.{mul-add, mul-zero}

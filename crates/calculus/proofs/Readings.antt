@@ -19,7 +19,7 @@ use Rattle.calculus.specs.Fold.{fold, SUM, Each, choose}
 use Rattle.calculus.specs.Limits.{ROOM, LONGEST, FORMULAS, CONNECTIVES, LETTERS, TOO-LONG, CUT, WRONG-COMMAND, MANY-FORMULAS, NO-SUCH-LETTER, MANY-CONNECTIVES}
 use Rattle.calculus.specs.Syntax.{Binary, NOT, two, Formula, letter, neg, join, Sequent, connectives, c, size}
 use Rattle.calculus.specs.Bytes.{Command, SIDE, LETTER, CONNECTIVE, code, command, encode, encodeAll, encodeSide, encodeSequent, bytes, bytesAll, question, Lettered, Within}
-use Rattle.calculus.specs.Reading.{Onward, refuse, onward, after, begin, advance, Reading, accepted, refused, ended, goOn, read, reading}
+use Rattle.calculus.specs.Reading.{Onward, refuse, onward, after, begin, advance, accepted, refused, ended, goOn, read, reading}
 use Rattle.calculus.proofs.Spelling.{command-code, command-byte, question-encode, longest}
 
 -- ---- what is within the limits is accepted
@@ -76,7 +76,7 @@ record Some (D : ℕ → List ℕ → Type 0) (n d : ℕ) (bs : List ℕ) : Type
   done : D sum rest
 
 -- a count of formulas, and these
-record Counted (D : ℕ → List ℕ → Type 0) (d : ℕ) (bs : List ℕ) : Type 0 where
+record CountedList (D : ℕ → List ℕ → Type 0) (d : ℕ) (bs : List ℕ) : Type 0 where
   n : ℕ
   rest : List ℕ
   spelt : bs ≡ n ∷ rest
@@ -87,7 +87,7 @@ record Counted (D : ℕ → List ℕ → Type 0) (d : ℕ) (bs : List ℕ) : Typ
 record Sided (s : Side) (D : ℕ → List ℕ → Type 0) (d : ℕ) (bs : List ℕ) : Type 0 where
   rest : List ℕ
   spelt : bs ≡ code (SIDE s) ∷ rest
-  counted : Counted D d rest
+  counted : CountedList D d rest
 
 -- the operand of a letter, and n formulas
 record Lettered-first (D : ℕ → List ℕ → Type 0) (n d : ℕ) (bs : List ℕ) : Type 0 where
@@ -103,7 +103,7 @@ Done Left d bs = Sided Right (λ e l. l ≡ []) d bs
 
 abbrev Rest : Expected → ℕ → List ℕ → Type 0
 Rest (Head s) = Sided s (Done s)
-Rest (Count s) = Counted (Done s)
+Rest (Count s) = CountedList (Done s)
 Rest (Due s n) = Some (Done s) (suc n)
 Rest (Operand s n) = Lettered-first (Done s) n
 Rest End = λ d bs. bs ≡ []

@@ -11,3 +11,4 @@ pub mod Width
 pub mod Derivation
 pub mod Reply
 pub mod Starred
+pub mod Numbers

@@ -1,5 +1,4 @@
 -- Reading a question: "the reader decides from what it still expects which command may come at this byte".
-use mathlib.Core.Bool.{Bool, true, false}
 use mathlib.Core.Option.{Option, none, some}
 use mathlib.Core.List.{List, [], _∷_}
 use Prim.Native.Nat.{ℕ, zero, suc}

@@ -18,11 +18,11 @@ abbrev case : List ℕ → ℕ → Kind → ℕ → ℕ → ℕ → Option (List
 case q b e r k w d = record { bytes = q; budget = b; kind = e; reductions = r; closings = k; wide = w; printed = d }
 
 -- "a large budget unless said"
-abbrev large : ℕ
+abbrev pub large : ℕ
 large = 1000000
 
 -- 001's failing example
-abbrev failing : List ℕ
+abbrev pub failing : List ℕ
 failing =
     0x10 ∷ 0x00 ∷ 0x20 ∷ 0x01 ∷ 0x05 ∷ 0x03 ∷ 0x05 ∷ 0x01 ∷ 0x00 ∷ 0x04 ∷ 0x01 ∷ 0x01 ∷ 0x01 ∷ 0x02 ∷ 0x05 ∷ 0x01 ∷ 0x02 ∷ 0x01 ∷ 0x03
     ∷ 0x05 ∷ 0x03 ∷ 0x01 ∷ 0x00 ∷ 0x01 ∷ 0x01 ∷ 0x01 ∷ 0x03 ∷ []

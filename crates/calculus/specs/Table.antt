@@ -33,7 +33,7 @@ fill x y (L G) = L y
 fill x y (R F) = R x
 fill x y (R G) = R y
 
--- those that go to a side
+-- the things that go to a side
 abbrev pub on : {X : Type 0} → Side → List (Put X) → List X
 on s [] = []
 on Left (L x ∷ ps) = x ∷ on Left ps

@@ -1,4 +1,4 @@
-// The types that the code and the definitions share.
+// The types that the code and the definitions share, and a byte as a count or a place.
 ghost use mathlib.Core.Path.{_≡_};
 ghost use Rattle.calculus.specs.Syntax.{other};
 
@@ -57,4 +57,10 @@ pub struct Verdict {
 pub struct Part {
     pub start: usize,
     pub count: usize,
+}
+
+pub fn wide(b: u8) -> usize
+    ensures { λ r. ⌜ r ≡ b ⌝ }
+{
+    b as usize
 }

@@ -21,17 +21,17 @@ use Rattle.sequent.specs.declared.Running.{Running}
 use Rattle.sequent.specs.View.{sequentOf}
 use Rattle.checker.specs.declared.Fault.{Fault}
 use Rattle.checker.specs.declared.Fault.the-variants.{BytesAfter}
-use Rattle.checker.specs.declared.Answer.{Answer}
-use Rattle.checker.specs.declared.Answer.the-variants.{Refused, Faulty, Passes}
+use Rattle.checker.specs.declared.Checking.{Checking}
+use Rattle.checker.specs.declared.Checking.the-variants.{Refused, Faulty, Passes}
 use Rattle.checker.specs.declared.Walked.the-variants.{To, Stopped}
 use Rattle.checker.specs.Answers.{faultNumber, faultPlace, checkOf}
 use Rattle.checker.specs.Walks.{Roomy, Walks}
 
--- an accepted question leaves room
+-- An accepted question leaves room.
 pub question-roomy : (q : List ℕ) (s : Running) → reading q ≡ accepted → sequentOf q s ≡ question q → Roomy (sequentOf q s)
 question-roomy q s e h = omega (arith, within-room (question q) (accepted-question q e .0), ap c h, ap size h)
 
--- the reply that passes
+-- Where the reply is that the derivation passes, the question is accepted and the derivation passes.
 pass-reply : (q d : List ℕ) → checkOf Passes ≡ checkReply q d → (reading q ≡ accepted) × (checking (question q) d ≡ passes)
 pass-reply q d e = go (reading q) refl (checking (question q) d) refl e
   where
@@ -41,18 +41,18 @@ pass-reply q d e = go (reading q) refl (checking (question q) d) refl e
     go accepted h (faulty n at) j i = absurd (omega (arith, ap (λ (a : Reply). length (a .values)) i))
     go (refused n at) h k j i = absurd (omega (arith, ap (λ (a : Reply). length (a .values)) i))
 
-is-passes : (a : Answer) → checkOf a ≡ checkOf Passes → a ≡ Passes
+is-passes : (a : Checking) → checkOf a ≡ checkOf Passes → a ≡ Passes
 is-passes (Refused r) e = absurd (omega (arith, ap (λ (a : Reply). length (a .values)) e))
 is-passes (Faulty f) e = absurd (omega (arith, ap (λ (a : Reply). length (a .values)) e))
 is-passes Passes e = refl
 
--- the reply; what passes is true in every state, whoever wrote it; and the derivations pass, and nothing else
-abbrev pub Answered : List ℕ → List ℕ → Answer → Type 0
+-- The answer is the reply; what passes is true in every state, whoever wrote it; and the derivations pass, and nothing else.
+abbrev pub Answered : List ℕ → List ℕ → Checking → Type 0
 Answered q d a =
     (checkOf a ≡ checkReply q d)
     × ((a ≡ Passes → (reading q ≡ accepted) × Valid (question q)) × ((a ≡ Passes) ↔ ((reading q ≡ accepted) × Derivation (question q) d)))
 
-answered : (q d : List ℕ) (a : Answer) → checkOf a ≡ checkReply q d → Answered q d a
+answered : (q d : List ℕ) (a : Checking) → checkOf a ≡ checkReply q d → Answered q d a
 answered q d a e =
     let k = passes-exactly (question q) d in
     let f : a ≡ Passes → (reading q ≡ accepted) × (checking (question q) d ≡ passes) = λ p. pass-reply q d (ap checkOf (sym p) ∙ e) in

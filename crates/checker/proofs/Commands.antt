@@ -30,8 +30,8 @@ use Rattle.sequent.specs.View.{lane, slotOf, countOf, view, formulasOf, sequent
 use Rattle.sequent.proofs.Changes.{sides}
 use Rattle.sequent.proofs.Lanes.{slot-get}
 use Rattle.sequent.proofs.Premises.{element}
-use Rattle.reduction.specs.Reduction.{compoundAt, firstIn}
-use Rattle.reduction.proofs.Compounds.{held, each-at, not-letter, compound-parts}
+use Rattle.sequent.specs.Compounds.{compoundAt, firstIn}
+use Rattle.sequent.proofs.Compounds.{held, each-at, not-letter, compound-parts}
 use Rattle.checker.specs.declared.Order.the-variants.{Close, Reduce as Reduction-of, Unknown}
 use Rattle.checker.specs.declared.Fault.the-variants.{NoFormula, OtherConnective, NotClosed, UnknownCommand}
 use Rattle.checker.specs.declared.Move.{Move}

@@ -24,7 +24,7 @@ use Rattle.checker.specs.Walks.{orderOf}
 pub order-close : (b : ℕ) → b ≡ 0x41 → orderOf (order b) ≡ Close
 order-close b e = rw e
 
--- the commands of a side start at n
+-- A side's commands are n more than the connectives' bytes, which are 2 to 6.
 pub order-reduce : (t : Side) (b n : ℕ) → ((k : Connective) → orderCode (REDUCE t k) ≡ n + code (CONNECTIVE k)) → n + 2 ≤ b → b ≤ n + 6
     → orderOf (order b) ≡ Reduce t (b - n)
 order-reduce t b n f h l =

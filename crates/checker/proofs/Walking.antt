@@ -12,7 +12,7 @@ use Rattle.calculus.specs.declared.Side.{Side}
 use Rattle.calculus.specs.Fold.{Each}
 use Rattle.calculus.specs.Limits.{ROOM, CUT-SHORT}
 use Rattle.calculus.specs.Syntax.{Formula, Sequent, c, size}
-use Rattle.calculus.specs.Table.{premise, premises}
+use Rattle.calculus.specs.Table.{premise}
 use Rattle.calculus.specs.Derivation.{Move as Result, fault, waiting, obey, order, faulty, proceed, check}
 use Rattle.calculus.proofs.Sequents.{Due, weight-size, Smaller, smaller}
 use Rattle.sequent.specs.declared.Running.{Running}
@@ -20,7 +20,8 @@ use Rattle.sequent.specs.declared.Placing.{Placing}
 use Rattle.sequent.specs.View.{lane, countOf, places, sequentOf, Compounds}
 use Rattle.sequent.specs.Rule.{placed}
 use Rattle.reduction.specs.declared.Reduction.{Reduction}
-use Rattle.reduction.specs.Reduction.{compoundAt, premiseBy, Reduces}
+use Rattle.sequent.specs.Compounds.{compoundAt}
+use Rattle.reduction.specs.Reduction.{premiseBy, Reduces}
 use Rattle.reduction.proofs.Reductions.{premisesWith, premises-rule, premise-stands, placed-size}
 use Rattle.checker.specs.declared.Fault.{Fault}
 use Rattle.checker.specs.declared.Fault.the-variants.{CutShort}
@@ -74,7 +75,7 @@ walk-first d P R at f h = λ Ps. h (R ∷ Ps)
 
 -- ---- premises of the running sequent
 
--- a running sequent that stands for P, which is smaller than S
+-- The running sequent s stands for P, which is smaller than S.
 pub record Waits (q : List ℕ) (S P : Sequent) (s : Running) : Type 0 where
   pub stands : sequentOf q s ≡ P
   pub fewer : c (sequentOf q s) < c S
@@ -130,13 +131,15 @@ module _ (q : List ℕ) (s : Running) (t : Side) (i : ℕ) (r : Reduction) (h : 
         → (w : Walked) → Walks d (sequentOf q v ∷ []) n w → Walks d (premisesAt q s t i) at w
     walk-two e n j v m w o =
         subst (λ (Ps : List Sequent). Walks d Ps at w) (sym (two-premises e))
-        (walk-both d (premiseAt (r .rule .first)) (premiseAt (r .rule .second)) at n (subst (λ (P : Sequent). Walks d (P ∷ []) at (To n)) (k .stands) j) w (subst (λ (P : Sequent). Walks d (P ∷ []) n w) (m .stands) o))
+        (walk-both d (premiseAt (r .rule .first)) (premiseAt (r .rule .second)) at n
+        (subst (λ (P : Sequent). Walks d (P ∷ []) at (To n)) (k .stands) j) w
+        (subst (λ (P : Sequent). Walks d (P ∷ []) n w) (m .stands) o))
 
     pub walk-one-stopped : r .rule .premises ≡ 2 → (f : Fault) → Walks d (sequentOf q u ∷ []) at (Stopped f) → Walks d (premisesAt q s t i) at (Stopped f)
     walk-one-stopped e f j =
         subst (λ (Ps : List Sequent). Walks d Ps at (Stopped f)) (sym (two-premises e))
         (walk-first d (premiseAt (r .rule .first)) (premiseAt (r .rule .second)) at f (subst (λ (P : Sequent). Walks d (P ∷ []) at (Stopped f)) (k .stands) j))
 
--- the formula found at position p reduces
+-- The formula found at position p reduces.
 pub reducing : (q : List ℕ) (s : Running) (t : Side) (i p : ℕ) (r : Reduction) → p ≡ positionAt s t i → Compounded q s t i → Reduces q p t r → Reducing q s t i r
 reducing q s t i p r e h k = record { there = h; reduces = subst (λ (n : ℕ). Reduces q n t r) e k }

@@ -6,8 +6,8 @@ use Rattle.calculus.specs.Reply.{Reply}
 use Rattle.question.specs.Answers.{numberOf, placeOf}
 use Rattle.checker.specs.declared.Fault.{Fault}
 use Rattle.checker.specs.declared.Fault.the-variants.{CutShort, UnknownCommand, NoFormula, OtherConnective, NotClosed, BytesAfter}
-use Rattle.checker.specs.declared.Answer.{Answer}
-use Rattle.checker.specs.declared.Answer.the-variants.{Refused, Faulty, Passes}
+use Rattle.checker.specs.declared.Checking.{Checking}
+use Rattle.checker.specs.declared.Checking.the-variants.{Refused, Faulty, Passes}
 
 abbrev pub faultNumber : Fault → ℕ
 faultNumber (CutShort at) = CUT-SHORT
@@ -26,7 +26,7 @@ faultPlace (NotClosed at) = at
 faultPlace (BytesAfter at) = at
 
 -- "without a refusal the checker answers only that the derivation passes"
-abbrev pub checkOf : Answer → Reply
+abbrev pub checkOf : Checking → Reply
 checkOf (Refused r) = record { number = numberOf r; values = placeOf r ∷ [] }
 checkOf (Faulty f) = record { number = faultNumber f; values = faultPlace f ∷ [] }
 checkOf Passes = record { number = 0; values = [] }

@@ -14,7 +14,8 @@ use Rattle.question.specs.Positions.{formulaAt}
 use Rattle.sequent.specs.declared.Running.{Running}
 use Rattle.sequent.specs.View.{view, sequentOf, Stands}
 use Rattle.reduction.specs.declared.Reduction.{Reduction}
-use Rattle.reduction.specs.Reduction.{compoundAt, IsCompound, Reduces}
+use Rattle.sequent.specs.Compounds.{compoundAt, IsCompound}
+use Rattle.reduction.specs.Reduction.{Reduces}
 use Rattle.checker.specs.Answers.{faultNumber, faultPlace}
 use Rattle.checker.specs.declared.Order.{Order}
 use Rattle.checker.specs.declared.Order.the-variants.{Close, Reduce as Reduction-of, Unknown}

@@ -1,5 +1,6 @@
 // Checking a derivation of a question.
 use calculus::Side;
+use calculus::wide;
 use question::Reading;
 use question::Refusal;
 use reduction::Reduction;
@@ -46,7 +47,7 @@ impl Fault {
         }
     }
 
-    // Its place.
+    // The place of the fault.
     pub fn place(self) -> usize
         ensures { λ r. ⌜ r ≡ faultPlace self ⌝ }
     {
@@ -61,7 +62,7 @@ impl Fault {
     }
 }
 
-pub enum Answer {
+pub enum Checking {
     Refused(Refusal),
     Faulty(Fault),
     Passes,
@@ -109,7 +110,7 @@ fn in_mask(mask: u32, letter: u8) -> bool
     (mask >> letter) % 2 == 1
 }
 
-// Whether it stands on both sides.
+// Whether a letter stands on both sides.
 fn closes(s: Running, letter: u8) -> bool
     ensures { λ r. ⌜ r ≡ (bit letter (s .leftmask) && bit letter (s .rightmask)) ⌝ }
 {
@@ -117,12 +118,6 @@ fn closes(s: Running, letter: u8) -> bool
         return in_mask(s.rightmask, letter);
     }
     false
-}
-
-fn wide(p: u8) -> usize
-    ensures { λ r. ⌜ r ≡ p ⌝ }
-{
-    p as usize
 }
 
 // The formula at a place of a side, if it has the connective whose command is b.
@@ -211,26 +206,26 @@ fn walk_premises(
 }
 
 // Checks a derivation of a question.
-pub fn check(q: &[u8], derivation: &[u8]) -> Answer
+pub fn check(q: &[u8], derivation: &[u8]) -> Checking
     ensures reply { λ r. ⌜ checkOf r ≡ checkReply (now (q .entry)) (now (derivation .entry)) ⌝ }
     ensures sound { λ r. ⌜
-        (r ≡ Answer.Passes → (reading (now (q .entry)) ≡ accepted) × Valid (question (now (q .entry)))) ⌝ }
+        (r ≡ Checking.Passes → (reading (now (q .entry)) ≡ accepted) × Valid (question (now (q .entry)))) ⌝ }
     ensures exactly { λ r. ⌜
-        (r ≡ Answer.Passes)
+        (r ≡ Checking.Passes)
         ↔ ((reading (now (q .entry)) ≡ accepted) × Derivation (question (now (q .entry))) (now (derivation .entry))) ⌝ }
 {
     let reading = question::read(q);
     match reading {
-        Reading::Refused(r) => Answer::Refused(r),
+        Reading::Refused(r) => Checking::Refused(r),
         Reading::Accepted => {
             let walked = walk(q, derivation, reduction::root(q), 0);
             match walked {
-                Walked::Stopped(f) => Answer::Faulty(f),
+                Walked::Stopped(f) => Checking::Faulty(f),
                 Walked::To(e) => {
                     if e < derivation.len() {
-                        return Answer::Faulty(Fault::BytesAfter(e));
+                        return Checking::Faulty(Fault::BytesAfter(e));
                     }
-                    Answer::Passes
+                    Checking::Passes
                 }
             }
         }

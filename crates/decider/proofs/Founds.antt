@@ -19,8 +19,8 @@ use Rattle.calculus.specs.Syntax.{Connective, NOT, two, Formula, Compound, comp
 use Rattle.calculus.specs.Tree.{letters, state, First, missing, here, first, due, tests}
 use Rattle.calculus.proofs.Trees.{stands}
 use Rattle.decider.specs.declared.Sets.{Sets}
-use Rattle.decider.specs.declared.Due.{Due}
-use Rattle.decider.specs.declared.Due.the-variants.{At, Nothing}
+use Rattle.decider.specs.declared.Taken.{Taken}
+use Rattle.decider.specs.declared.Taken.the-variants.{At, Nothing}
 use Rattle.decider.specs.Names.{Rising, Lined}
 use Rattle.decider.specs.States.{Shows, Lacks, lowest, fetched, dueRight, dueIn}
 use Rattle.decider.proofs.Lines.{rising-order, rising-append, rising-empty, rising-lowest, FirstIn, Firsts, rising-first, first-front, first-none, lined-none, lined-fetch}
@@ -55,7 +55,7 @@ module _ (T Q : List ℕ) (S : Sequent) where
     pub connectives : r .connectives ≡ s .connectives
     pub to : r .to ≡ s .to
 
-  abbrev pub Found : Sets → Due → Type 0
+  abbrev pub Found : Sets → Taken → Type 0
   Found s (At t n r) = FoundAt t s n r
   Found s Nothing = (first (S .on-left) ≡ missing) × (first (S .on-right) ≡ missing)
 

@@ -33,7 +33,7 @@ use Rattle.sequent.specs.View.{bitOf as letterBit}
 use Rattle.sequent.proofs.Masks.{OR, state-fold, fold-splice}
 use Rattle.sequent.proofs.Premises.{bit-whole}
 use Rattle.decider.specs.declared.Sets.{Sets}
-use Rattle.decider.specs.declared.Reduction.{Reduction}
+use Rattle.decider.specs.declared.DueReduction.{DueReduction}
 use Rattle.decider.specs.Names.{markOf, waiting}
 use Rattle.decider.specs.States.{kindOf, partBits, partMarks, partsWaiting, setOf, premised, Takes, Shows, Runs, Makes, Lacks, firstName, secondName, Reduces}
 use Rattle.decider.proofs.Numbers.{mark-small, waiting-short}
@@ -154,7 +154,7 @@ module _ (T Q : List ℕ) (n i : ℕ) (x : Compound) (s : Sets) (S : Sequent) (p
       (omega (arith, rising-bound T 0 CONNECTIVES (splice i ks (l .front)) (s .first + k) r), omega (arith, l .none, m, pow-mono {j = CONNECTIVES} (h .inside)))
 
 -- a premise of a reduction is in the making
-premise-makes : (T Q : List ℕ) (i : ℕ) (x : Compound) (S : Sequent) (d : Reduction) → Reduces T Q i x S d → (p : Placing) → Fair (x .connective) p
+premise-makes : (T Q : List ℕ) (i : ℕ) (x : Compound) (S : Sequent) (d : DueReduction) → Reduces T Q i x S d → (p : Placing) → Fair (x .connective) p
     → size (premiseOf p) ≡ size (premiseOf (d .rule .first)) → Smaller S (premiseBy (d .side) i x S p) → Makes T Q (d .rest) (d .side) p (d .f) (d .g) (premiseBy (d .side) i x S p)
 premise-makes T Q i x S d h p q z w =
     let n = h .number in
@@ -241,7 +241,7 @@ makes-kept T Q r t p f g S h R P s e k l =
     kept-before Q P (r .to) (s .to) (partsWaiting (other t) p f g) (omega (arith, ap (λ (v : Sets). v .to) e, premised-to t p f g r)) (h .long) (l ∙ k)
 
 -- the queue's places before its end are all that matters
-pub reduces-kept : (T Q R : List ℕ) (i : ℕ) (x : Compound) (S : Sequent) (d : Reduction) → Reduces T Q i x S d → take (d .rest .to) R ≡ take (d .rest .to) Q
+pub reduces-kept : (T Q R : List ℕ) (i : ℕ) (x : Compound) (S : Sequent) (d : DueReduction) → Reduces T Q i x S d → take (d .rest .to) R ≡ take (d .rest .to) Q
     → length R ≡ length Q → Reduces T R i x S d
 reduces-kept T Q R i x S d h e l = record {
   number = h .number;
@@ -299,7 +299,7 @@ pass-ends (Refuted σ) o u n = refl
 pass-ends Spent o u n = refl
 pass-ends Full o u n = refl
 
-module _ (T Q : List ℕ) (i : ℕ) (x : Compound) (S : Sequent) (d : Reduction) (h : Reduces T Q i x S d) where
+module _ (T Q : List ℕ) (i : ℕ) (x : Compound) (S : Sequent) (d : DueReduction) (h : Reduces T Q i x S d) where
   rule : RuleFor (x .connective) (d .rule)
   rule = rule-for (x .connective) (d .side) (d .rule) (h .rows)
 

@@ -9,7 +9,7 @@ use Rattle.calculus.specs.declared.Side.the-variants.{Left, Right}
 use Rattle.calculus.specs.Syntax.{other}
 use Rattle.sequent.specs.declared.Placing.{Placing}
 use Rattle.decider.specs.declared.Sets.{Sets}
-use Rattle.decider.specs.declared.Due.the-variants.{At, Nothing}
+use Rattle.decider.specs.declared.Taken.the-variants.{At, Nothing}
 use Rattle.decider.specs.States.{Takes, replaced, lowest, fetched, dueRight, dueIn}
 
 -- the right side, where the left has no connective

@@ -23,10 +23,10 @@ use Rattle.sequent.specs.declared.Rule.{Rule}
 use Rattle.sequent.specs.Rule.{premiseOf, premisesOf, sided}
 use Rattle.sequent.proofs.Premises.{ones}
 use Rattle.decider.specs.declared.Sets.{Sets}
-use Rattle.decider.specs.declared.Reduction.{Reduction}
-use Rattle.decider.specs.declared.Answer.{Answer}
-use Rattle.decider.specs.declared.Answer.the-variants.{Closed, Open, Full, Spent, Reduce}
-use Rattle.decider.specs.States.{Runs, Place, Lacks, firstName, secondName, Took, counting, resized, Reduced, Reducing}
+use Rattle.decider.specs.declared.DueReduction.{DueReduction}
+use Rattle.decider.specs.declared.Tested.{Tested}
+use Rattle.decider.specs.declared.Tested.the-variants.{Closed, Open, Full, Spent, Reduce}
+use Rattle.decider.specs.States.{Runs, Place, Lacks, firstName, secondName, Took, counting, Reduced, Reducing}
 use Rattle.decider.proofs.Closing.{not-closed, closed-by}
 use Rattle.decider.proofs.Naming.{NodeTold, node-told, node-read}
 use Rattle.decider.proofs.Rows.{premiseBy, rule-for, premises-by, premise-size}
@@ -141,7 +141,7 @@ module _ (T Q : List ℕ) (s : Sets) (S : Sequent) (h : Runs T Q s S) (b : ℕ) 
         step-reduced l = here-test ∙ rw (within-full t (f .place) (f .compound) S u rows inside m sized l)
 
   module _ (z : bitAnd (s .leftmask) (s .rightmask) ≡ 0) (n : ℕ) (r : Sets) where
-    took-reduce : (d : Reduction) → FoundAt T Q S (d .side) s n r → Reduced (getD T n 0) (d .side) b r d → Took T Q s b S (Reduce d)
+    took-reduce : (d : DueReduction) → FoundAt T Q S (d .side) s n r → Reduced (getD T n 0) (d .side) b r d → Took T Q s b S (Reduce d)
     took-reduce d f k =
         let rows = k .rows (f .compound .connective) (sym (reads z (d .side) n r f .0)) in
         let m = r .size - 1 + size (premiseOf (d .rule .first)) in
@@ -175,7 +175,7 @@ module _ (T Q : List ℕ) (s : Sets) (S : Sequent) (h : Runs T Q s S) (b : ℕ) 
         afforded zero l = absurd (omega arith)
         afforded (suc b) l = refl
 
-    pub took : (t : Side) → FoundAt T Q S t s n r → (a : Answer) → Reducing (getD T n 0) t b r a → Took T Q s b S a
+    pub took : (t : Side) → FoundAt T Q S t s n r → (a : Tested) → Reducing (getD T n 0) t b r a → Took T Q s b S a
     took t f Closed k = absurd k
     took t f (Open σ) k = absurd k
     took t f Full (m, k, l) =

@@ -22,12 +22,12 @@ use Rattle.sequent.specs.declared.Placing.{Placing}
 use Rattle.sequent.specs.declared.Rule.{Rule}
 use Rattle.sequent.specs.Rule.{sideCode, premisesOf, premiseOf, sided}
 use Rattle.decider.specs.declared.Sets.{Sets}
-use Rattle.decider.specs.declared.Due.{Due}
-use Rattle.decider.specs.declared.Due.the-variants.{At, Nothing}
-use Rattle.decider.specs.declared.Reduction.{Reduction}
+use Rattle.decider.specs.declared.Taken.{Taken}
+use Rattle.decider.specs.declared.Taken.the-variants.{At, Nothing}
+use Rattle.decider.specs.declared.DueReduction.{DueReduction}
 use Rattle.decider.specs.declared.Tally.{Tally}
-use Rattle.decider.specs.declared.Answer.{Answer}
-use Rattle.decider.specs.declared.Answer.the-variants.{Closed, Open, Full, Spent, Reduce}
+use Rattle.decider.specs.declared.Tested.{Tested}
+use Rattle.decider.specs.declared.Tested.the-variants.{Closed, Open, Full, Spent, Reduce}
 use Rattle.decider.specs.Names.{name, Told, bitOf, markOf, waiting, Rising, Lined}
 
 -- ---- the parts, by their names f and g, that a premise puts on a side
@@ -73,7 +73,7 @@ replaced Right p f g s =
       connectives = s .connectives;
     }
 
--- they go to its end
+-- parts that change side go to its end
 abbrev pub appended : Side → Placing → ℕ → ℕ → Sets → Sets
 appended Left p f g s = replaced Left p f g s
 appended Right p f g s =
@@ -92,7 +92,7 @@ appended Right p f g s =
 abbrev pub premised : Side → Placing → ℕ → ℕ → Sets → Sets
 premised t p f g s = appended (other t) p f g (replaced t p f g s)
 
--- there is room for them at a side's end
+-- a side's end has room for the parts
 abbrev pub Takes : Side → Placing → ℕ → ℕ → ℕ → Sets → Type 0
 Takes Left p f g n s = s .left + partBits Left p f g < 2 ^ 64
 Takes Right p f g n s = s .to + 2 ≤ n
@@ -138,10 +138,10 @@ without Right s =
       connectives = s .connectives;
     }
 
-abbrev pub dueRight : Sets → Due
+abbrev pub dueRight : Sets → Taken
 dueRight s = choose (eqb (s .first) 0) Nothing (At Right (lowest (s .first)) (without Right s))
 
-abbrev pub dueIn : List ℕ → Sets → Due
+abbrev pub dueIn : List ℕ → Sets → Taken
 dueIn Q s = choose (eqb (s .left) 0) (dueRight (fetched Q s)) (At Left (lowest (s .left)) (without Left s))
 
 -- ---- what it stands for: its letters as two masks, its compounds by number, with all connectives below e
@@ -232,7 +232,7 @@ abbrev pub secondName : ℕ → Compound → ℕ
 secondName n x = secondOf n (x .connective) (x .f) (x .g)
 
 -- what the reduction knows of the compound and the premises
-pub record Reduces (T Q : List ℕ) (i : ℕ) (x : Compound) (S : Sequent) (d : Reduction) : Type 0 where
+pub record Reduces (T Q : List ℕ) (i : ℕ) (x : Compound) (S : Sequent) (d : DueReduction) : Type 0 where
   pub number : ℕ
   pub lacks : Lacks (d .side) T CONNECTIVES Q number i x (d .rest) S
   pub nodes : length T ≡ CONNECTIVES
@@ -246,7 +246,7 @@ pub record Reduces (T Q : List ℕ) (i : ℕ) (x : Compound) (S : Sequent) (d : 
   pub room : d .rest .size ≤ ROOM
 
 -- what the inner step answers, "by its own contract"
-abbrev pub Took : List ℕ → List ℕ → Sets → ℕ → Sequent → Answer → Type 0
+abbrev pub Took : List ℕ → List ℕ → Sets → ℕ → Sequent → Tested → Type 0
 Took T Q s b S Closed = (k : ℕ) × (inner b S ≡ isClosed k)
 Took T Q s b S (Open σ) = inner b S ≡ isOpen σ
 Took T Q s b S Full = inner b S ≡ isFull
@@ -277,7 +277,7 @@ counting m k s =
 abbrev pub resized : ℕ → Sets → Sets
 resized n s = counting n (s .connectives - 1) s
 
-pub record Reduced (w : ℕ) (t : Side) (b : ℕ) (s : Sets) (d : Reduction) : Type 0 where
+pub record Reduced (w : ℕ) (t : Side) (b : ℕ) (s : Sets) (d : DueReduction) : Type 0 where
   pub side : d .side ≡ t
   pub rows : (k : Connective) → code (CONNECTIVE k) ≡ w % 256 → premisesOf (d .rule) ≡ map sided (table k t)
   pub first : d .f ≡ w / 256 % 256
@@ -286,16 +286,16 @@ pub record Reduced (w : ℕ) (t : Side) (b : ℕ) (s : Sets) (d : Reduction) : T
   pub room : s .size - 1 + size (premiseOf (d .rule .first)) ≤ ROOM
   pub left : 1 ≤ b
 
-pub record Counted (w : ℕ) (t : Side) (s : Sets) (n : ℕ) : Type 0 where
+pub record Grown (w : ℕ) (t : Side) (s : Sets) (n : ℕ) : Type 0 where
   pub rule : Rule
   pub rows : (k : Connective) → code (CONNECTIVE k) ≡ w % 256 → premisesOf rule ≡ map sided (table k t)
   pub size : n ≡ s .size - 1 + size (premiseOf (rule .first))
 
-abbrev pub Reducing : ℕ → Side → ℕ → Sets → Answer → Type 0
+abbrev pub Reducing : ℕ → Side → ℕ → Sets → Tested → Type 0
 Reducing w t b s Closed = ⊥
 Reducing w t b s (Open σ) = ⊥
-Reducing w t b s Full = (n : ℕ) × Counted w t s n × (ROOM < n)
-Reducing w t b s Spent = (n : ℕ) × Counted w t s n × (n ≤ ROOM) × (b ≡ 0)
+Reducing w t b s Full = (n : ℕ) × Grown w t s n × (ROOM < n)
+Reducing w t b s Spent = (n : ℕ) × Grown w t s n × (n ≤ ROOM) × (b ≡ 0)
 Reducing w t b s (Reduce d) = Reduced w t b s d
 
 -- ---- what a run comes to

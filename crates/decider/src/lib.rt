@@ -41,13 +41,13 @@ pub struct Sets {
 }
 
 // The first compound: its side, its connective's number and the state without it.
-pub enum Due {
+pub enum Taken {
     At(Side, usize, Sets),
     Nothing,
 }
 
 // A reduction that is due: its side, its rule, the names of the parts, and the state without the compound.
-pub struct Reduction {
+pub struct DueReduction {
     pub side: Side,
     pub rule: Rule,
     pub f: u8,
@@ -56,12 +56,12 @@ pub struct Reduction {
 }
 
 // What the tests say of a running sequent.
-pub enum Answer {
+pub enum Tested {
     Closed,
     Open(u32),
     Full,
     Spent,
-    Reduce(Reduction),
+    Reduce(DueReduction),
 }
 
 // ---- the parts of a premise, by name: a letter is its own name, a connective is named by its number above the letters
@@ -221,7 +221,7 @@ impl Sets {
     }
 
     // The first formula with a connective, the left side before the right.
-    fn first_compound(mut self, queue: &[u8]) -> Due
+    fn first_compound(mut self, queue: &[u8]) -> Taken
         requires { ⌜
             (self .to ≤ length (now queue))
             × (self .from < self .to
@@ -231,15 +231,15 @@ impl Sets {
         if self.left != 0 {
             let n = lowest(self.left);
             self.left = without(self.left, n);
-            return Due::At(Side::Left, n, self);
+            return Taken::At(Side::Left, n, self);
         }
         let mut s = self.fetch(queue);
         if s.first != 0 {
             let n = lowest(s.first);
             s.first = without(s.first, n);
-            return Due::At(Side::Right, n, s);
+            return Taken::At(Side::Right, n, s);
         }
-        Due::Nothing
+        Taken::Nothing
     }
 }
 
@@ -278,7 +278,7 @@ impl Sets {
     }
 
     // The reduction of the compound with the connective n, which was taken out on a side: FULL and SPENT come before it.
-    fn reduction(mut self, nodes: &[u32], side: Side, n: usize, left: u64) -> Answer
+    fn reduction(mut self, nodes: &[u32], side: Side, n: usize, left: u64) -> Tested
         requires { ⌜
             (length (now nodes) ≡ CONNECTIVES)
             × (n < CONNECTIVES)
@@ -293,13 +293,13 @@ impl Sets {
         let rule = sequent::rule_of((node % 256) as u8, side);
         self.size = self.size - 1 + parts(rule.first);
         if ROOM < self.size {
-            return Answer::Full;
+            return Tested::Full;
         }
         if left == 0 {
-            return Answer::Spent;
+            return Tested::Spent;
         }
         self.connectives = self.connectives - 1;
-        Answer::Reduce(Reduction {
+        Tested::Reduce(DueReduction {
             side: side,
             rule: rule,
             f: (node / 256 % 256) as u8,
@@ -311,19 +311,19 @@ impl Sets {
     // The inner step: a running sequent through the tests, with the reductions left. Its contract gives Spent where a
     // compound is left and no reduction is, and a run goes on only with the reduction that it is handed: none is taken after
     // SPENT.
-    fn step(self, nodes: &[u32], queue: &[u8], left: u64) -> Answer
+    fn step(self, nodes: &[u32], queue: &[u8], left: u64) -> Tested
         requires { ⌜ ((S : Sequent) × Runs (now nodes) (now queue) self S) ⌝ }
         ensures { λ r. ⌜
             ((S : Sequent) → Runs (now (nodes .entry)) (now (queue .entry)) self S
             → Took (now (nodes .entry)) (now (queue .entry)) self left S r) ⌝ }
     {
         if self.leftmask & self.rightmask != 0 {
-            return Answer::Closed;
+            return Tested::Closed;
         }
         let due = self.first_compound(queue);
         match due {
-            Due::At(side, n, rest) => rest.reduction(nodes, side, n, left),
-            Due::Nothing => Answer::Open(self.leftmask as u32),
+            Taken::At(side, n, rest) => rest.reduction(nodes, side, n, left),
+            Taken::Nothing => Tested::Open(self.leftmask as u32),
         }
     }
 }
@@ -356,32 +356,32 @@ fn run(
     let s = rest.premise(queue, side, p, f, g);
     let answer = s.step(nodes, queue, left);
     match answer {
-        Answer::Closed => Tally {
+        Tested::Closed => Tally {
             ending: 0,
             unspent: left,
             closings: 1,
         },
-        Answer::Open(state) => Tally {
+        Tested::Open(state) => Tally {
             ending: 3 + state as u64,
             unspent: left,
             closings: 0,
         },
-        Answer::Full => Tally {
+        Tested::Full => Tally {
             ending: 2,
             unspent: left,
             closings: 0,
         },
-        Answer::Spent => Tally {
+        Tested::Spent => Tally {
             ending: 1,
             unspent: left,
             closings: 0,
         },
-        Answer::Reduce(d) => run_premises(nodes, queue, d, left - 1),
+        Tested::Reduce(d) => run_premises(nodes, queue, d, left - 1),
     }
 }
 
 // The first premise is finished, then the second is taken up.
-fn run_premises(nodes: &[u32], queue: &mut [u8], d: Reduction, left: u64) -> Tally
+fn run_premises(nodes: &[u32], queue: &mut [u8], d: DueReduction, left: u64) -> Tally
     requires { ⌜ ((i : ℕ) × (x : Compound) × (S : Sequent) × Reduces (now nodes) (now queue) i x S d) ⌝ }
     ensures { λ r. ⌜
         ((i : ℕ) (x : Compound) (S : Sequent) → Reduces (now (nodes .entry)) (now (queue .entry)) i x S d
@@ -403,7 +403,7 @@ fn run_premises(nodes: &[u32], queue: &mut [u8], d: Reduction, left: u64) -> Tal
     joined(o, v)
 }
 
-// One after the other.
+// What two premises come to, the first being a theorem.
 fn joined(o: Tally, v: Tally) -> Tally
     requires { ⌜ o .closings + v .closings < 2 ^ 64 ⌝ }
     ensures { λ r. ⌜ (r .ending ≡ v .ending) × (r .unspent ≡ v .unspent) × (r .closings ≡ o .closings + v .closings) ⌝ }

@@ -19,7 +19,7 @@ use Rattle.calculus.specs.Reading.{Reading, accepted, refused, reading}
 use Rattle.calculus.specs.Tree.{verdict}
 use Rattle.calculus.specs.Derivation.{derivation}
 use Rattle.calculus.specs.Reply.{Reply, Written, writeOut, writeIf, derive}
-use Rattle.writer.specs.declared.Answer.the-variants.{Written as written}
+use Rattle.writer.specs.declared.Writing.the-variants.{Written as written}
 use Rattle.writer.specs.Answers.{answerOf}
 
 -- three values and no number

@@ -2,7 +2,6 @@
 // to 25. Number 8 has none: no premise of an accepted question holds more than 80 formulas.
 use calculus::Kind;
 use calculus::Verdict;
-ghost use mathlib.Core.Path.{_≡_};
 ghost use Prim.Native.Nat.{_≤_};
 ghost use lib.ListN.{length};
 
@@ -12,52 +11,42 @@ const BUDGET: u64 = 1000000;
 fn check(q: &[u8], derivation: &[u8]) {
     let answer = checker::check(q, derivation);
     match answer {
-        checker::Answer::Refused(r) => print::refused(r),
-        checker::Answer::Faulty(f) => {
-            print::word(b"faulty");
-            print::number(f.number() as u64);
-            print::number(f.place() as u64);
-            print::end_line();
+        checker::Checking::Refused(r) => print::write_refused(r),
+        checker::Checking::Faulty(f) => {
+            let numbers = [f.number() as u64, f.place() as u64];
+            print::write_line(b"faulty", &numbers);
         }
-        checker::Answer::Passes => print::word(b"passes\n"),
+        checker::Checking::Passes => print::write_bytes(b"passes", b""),
     }
 }
 
 // A verdict with no derivation: its number, the state of a refuted question, and both counts.
 fn unproved(v: Verdict) {
     let kind = v.kind;
+    let counts = [v.reductions, v.closings];
     match kind {
-        Kind::Theorem => print::word(b"theorem"),
-        Kind::Full => print::word(b"full 8"),
-        Kind::Spent => print::word(b"spent 9"),
+        Kind::Theorem => print::write_line(b"theorem", &counts),
+        Kind::Full => print::write_line(b"full 8", &counts),
+        Kind::Spent => print::write_line(b"spent 9", &counts),
         Kind::Refuted(state) => {
-            print::word(b"not proved 10");
-            print::number(state as u64);
+            let numbers = [state as u64, v.reductions, v.closings];
+            print::write_line(b"not proved 10", &numbers);
         }
     }
-    counts(v);
-}
-
-fn counts(v: Verdict) {
-    print::number(v.reductions);
-    print::number(v.closings);
-    print::end_line();
 }
 
 // One line: what the writer answered.
-fn answer(a: writer::Answer) {
+fn answer(a: writer::Writing) {
     match a {
-        writer::Answer::Refused(r) => print::refused(r),
-        writer::Answer::NotProved(v) => unproved(v),
-        writer::Answer::NoSpace(n) => {
-            print::word(b"no space 11");
-            print::number(n);
-            print::end_line();
+        writer::Writing::Refused(r) => print::write_refused(r),
+        writer::Writing::NotProved(v) => unproved(v),
+        writer::Writing::NoSpace(n) => {
+            let numbers = [n];
+            print::write_line(b"no space 11", &numbers);
         }
-        writer::Answer::Written(n, v) => {
-            print::word(b"written");
-            print::number(n);
-            counts(v);
+        writer::Writing::Written(n, v) => {
+            let numbers = [n, v.reductions, v.closings];
+            print::write_line(b"written", &numbers);
         }
     }
 }
@@ -67,9 +56,7 @@ fn lend(q: &[u8], budget: u64, buffer: &mut [u8])
     requires { ⌜ length (now buffer) ≤ 4096 ⌝ }
 {
     answer(writer::derive(q, budget, buffer));
-    print::word(b"buffer ");
-    print::bytes(buffer);
-    print::end_line();
+    print::write_bytes(b"buffer ", buffer);
 }
 
 // The derivation in the first n bytes of a buffer, and what the checker says of it.
@@ -78,8 +65,7 @@ fn show(q: &[u8], buffer: &[u8], n: u64)
 {
     let end = n as usize;
     let derivation = &buffer[0..end];
-    print::bytes(derivation);
-    print::end_line();
+    print::write_bytes(b"", derivation);
     check(q, derivation);
 }
 
@@ -89,7 +75,7 @@ fn derive(q: &[u8], buffer: &mut [u8])
 {
     let a = writer::derive(q, BUDGET, buffer);
     answer(a);
-    if let writer::Answer::Written(n, _) = a {
+    if let writer::Writing::Written(n, _) = a {
         show(q, buffer, n);
     }
 }

@@ -18,14 +18,14 @@ ghost use Rattle.calculus.specs.Truth.{Valid};
 ghost use Rattle.calculus.specs.Derivation.{Derivation};
 ghost use Rattle.calculus.specs.Reply.{decideReply, widthReply, formulaPart, formulaBytes, derive, checkReply};
 ghost use Rattle.question.specs.Answers.{numberOf, placeOf};
-ghost use Rattle.question.specs.Positions.{partBytes};
+ghost use Rattle.question.specs.Positions.{partBytes, partAt};
 ghost use Rattle.width.specs.Answers.{widthOf, Sized};
-ghost use Rattle.width.specs.declared.Answer.the-variants.{Of};
+ghost use Rattle.width.specs.declared.Measure.the-variants.{Of};
 ghost use Rattle.prover.specs.Answers.{decisionOf, Promised};
 ghost use Rattle.writer.specs.Answers.{unproved, answerOf, Evidence};
 ghost use Rattle.checker.specs.Answers.{faultNumber, faultPlace, checkOf};
-ghost use Rattle.writer.specs.declared.Answer.the-variants.{Written};
-ghost use Rattle.checker.specs.declared.Answer.the-variants.{Passes};
+ghost use Rattle.writer.specs.declared.Writing.the-variants.{Written};
+ghost use Rattle.checker.specs.declared.Checking.the-variants.{Passes};
 ghost use Rattle.gekunday.specs.Words.{filled, Holds, kindNumber, refutedWord, stateWord, decideWords, partWords};
 ghost use Rattle.gekunday.specs.Words.{formulaWords};
 
@@ -38,7 +38,7 @@ pub fn decide(q: &[u8], budget: u64) -> Decision
 }
 
 // The width of a question, and its connectives.
-pub fn width_of(q: &[u8]) -> width::Answer
+pub fn width_of(q: &[u8]) -> width::Measure
     ensures reply { λ r. ⌜ widthOf r ≡ widthReply (now (q .entry)) ⌝ }
     ensures sized { λ r. ⌜ ((w n : ℕ) → r ≡ Of w n → Sized (now (q .entry)) w n) ⌝ }
 {
@@ -49,12 +49,13 @@ pub fn width_of(q: &[u8]) -> width::Answer
 pub fn formula(q: &[u8], side: Side, place: usize) -> &[u8]
     ensures own { λ r. ⌜ now r ≡ formulaBytes (now (q .entry)) side place ⌝ }
     ensures part { λ r. ⌜ now r ≡ partBytes (formulaPart (now (q .entry)) side place) (now (q .entry)) ⌝ }
+    ensures starts { λ r. ⌜ r .ptr ≡ partAt (formulaPart (now (q .entry)) side place) (q .entry .ptr) ⌝ }
 {
     question::formula(q, side, place)
 }
 
 // Decides a question, and writes the derivation of a theorem.
-pub fn derive(q: &[u8], budget: u64, buffer: &mut [u8]) -> writer::Answer
+pub fn derive(q: &[u8], budget: u64, buffer: &mut [u8]) -> writer::Writing
     ensures reply { λ r. ⌜ answerOf r ≡ derive (now (q .entry)) budget (now (buffer .entry)) .reply ⌝ }
     ensures written { λ r. ⌜ now (buffer .exit) ≡ derive (now (q .entry)) budget (now (buffer .entry)) .buffer ⌝ }
     ensures evidence { λ r. ⌜
@@ -65,7 +66,7 @@ pub fn derive(q: &[u8], budget: u64, buffer: &mut [u8]) -> writer::Answer
 }
 
 // Checks a derivation of a question.
-pub fn check(q: &[u8], derivation: &[u8]) -> checker::Answer
+pub fn check(q: &[u8], derivation: &[u8]) -> checker::Checking
     ensures reply { λ r. ⌜ checkOf r ≡ checkReply (now (q .entry)) (now (derivation .entry)) ⌝ }
     ensures sound { λ r. ⌜ (r ≡ Passes → (reading (now (q .entry)) ≡ accepted) × Valid (question (now (q .entry)))) ⌝ }
     ensures exactly { λ r. ⌜
@@ -100,12 +101,12 @@ fn refusal_words(r: Refusal) -> Words
     placed(r.number(), r.place())
 }
 
-fn width_words(a: width::Answer) -> Words
+fn width_words(a: width::Measure) -> Words
     ensures { λ w. ⌜ Holds (widthOf a) w ⌝ }
 {
     match a {
-        width::Answer::Refused(r) => refusal_words(r),
-        width::Answer::Of(w, c) => Words {
+        width::Measure::Refused(r) => refusal_words(r),
+        width::Measure::Of(w, c) => Words {
             number: 0,
             first: w,
             second: c,
@@ -143,19 +144,19 @@ fn counts(number: u32, v: Verdict) -> Words
     }
 }
 
-fn derivation_words(a: writer::Answer) -> Words
+fn derivation_words(a: writer::Writing) -> Words
     ensures { λ w. ⌜ Holds (answerOf a) w ⌝ }
 {
     match a {
-        writer::Answer::Refused(r) => refusal_words(r),
-        writer::Answer::NotProved(v) => unproved_words(v),
-        writer::Answer::NoSpace(n) => Words {
+        writer::Writing::Refused(r) => refusal_words(r),
+        writer::Writing::NotProved(v) => unproved_words(v),
+        writer::Writing::NoSpace(n) => Words {
             number: 11,
             first: n,
             second: 0,
             third: 0,
         },
-        writer::Answer::Written(n, v) => Words {
+        writer::Writing::Written(n, v) => Words {
             number: 0,
             first: n,
             second: v.reductions,
@@ -170,13 +171,13 @@ fn fault_words(f: Fault) -> Words
     placed(f.number(), f.place())
 }
 
-fn check_words(a: checker::Answer) -> Words
+fn check_words(a: checker::Checking) -> Words
     ensures { λ w. ⌜ Holds (checkOf a) w ⌝ }
 {
     match a {
-        checker::Answer::Refused(r) => refusal_words(r),
-        checker::Answer::Faulty(f) => fault_words(f),
-        checker::Answer::Passes => Words {
+        checker::Checking::Refused(r) => refusal_words(r),
+        checker::Checking::Faulty(f) => fault_words(f),
+        checker::Checking::Passes => Words {
             number: 0,
             first: 0,
             second: 0,

@@ -1,40 +1,122 @@
--- One more byte behind a text of bytes in hexadecimal.
+-- Texts put one behind the other, and the digits that `io::decimal` puts.
 -- Assumes nothing.
-use mathlib.Core.Path.{_≡_, refl, sym, ap, _∙_}
+use mathlib.Core.Path.{_≡_, refl, sym, ap, _∙_, subst}
 use mathlib.Core.List.{List, [], _∷_, _++_}
-use Prim.Native.Nat.{ℕ, _+_, _*_, _≤_, _<_}
+use Prim.Native.Nat.{ℕ, zero, suc, _+_, _-_, _/_, _%_, _^_, _≤_, _<_}
+use native.Mathlib.Nat.{pow-suc, one-le-pow}
 use native.Mathlib.Numerals.{add-one}
 use native.Mathlib.Omega.{arith}
-use lib.ListN.{length, take, drop, getD, length-append, length-drop}
-use lib.Seq.{take-suc, take-at, drop-append-add, drop-drop, sets, sets-eq, length-take-le}
-use Rattle.print.specs.Text.{spelled, hexadecimal}
+use lib.ListN.{length, drop, getD, set, length-append}
+use lib.Seq.{drop-cons, sets, sets-eq}
+use Rattle.io.specs.Digits.{glyph, digits, Fewest}
+use Rattle.print.specs.Text.{blank, spaced, leading, decimalBy, decimal, spelled, hexadecimal, Put}
 
-text-length : (bs : List ℕ) → length (hexadecimal bs) ≡ 3 * length bs
-text-length [] = refl
-text-length (b ∷ bs) = omega (arith, text-length bs)
+sets-append : (l : List ℕ) (i : ℕ) (xs ys : List ℕ) → sets (sets l i xs) (i + length xs) ys ≡ sets l i (xs ++ ys)
+sets-append l i [] ys = let z : i + 0 ≡ i = omega arith in ap (λ (k : ℕ). sets l k ys) z
+sets-append l i (x ∷ xs) ys =
+    let z : i + suc (length xs) ≡ suc i + length xs = omega arith in
+    ap (λ (k : ℕ). sets (sets (set l i x) (suc i) xs) k ys) z ∙ sets-append (set l i x) (suc i) xs ys
 
-text-more : (bs : List ℕ) (b : ℕ) → hexadecimal (bs ++ (b ∷ [])) ≡ hexadecimal bs ++ spelled b
-text-more [] b = refl
-text-more (a ∷ bs) b = ap (λ (l : List ℕ). spelled a ++ l) (text-more bs b)
+-- ---- one text behind another
 
--- what is laid at the start of a buffer
-abbrev pub textAt : List ℕ → ℕ → List ℕ → List ℕ
-textAt bs i old = hexadecimal (take i bs) ++ drop (3 * i) old
+pub none : (old : List ℕ) (at : ℕ) → Put old at [] at old
+none old at = record { place = omega arith; bytes = refl }
 
-pub text-next : (bs : List ℕ) (i : ℕ) (old : List ℕ) → i < length bs → 3 * length bs ≤ length old
-    → sets (textAt bs i old) (3 * i) (spelled (getD bs i 0)) ≡ textAt bs (i + 1) old
-text-next bs i old h fits =
-    let x : List ℕ = hexadecimal (take i bs) in
-    let v : List ℕ = spelled (getD bs i 0) in
-    let n : length x ≡ 3 * i = omega (arith, text-length (take i bs), length-take-le i bs (omega arith)) in
-    let long : 3 * i + 3 ≤ length (x ++ drop (3 * i) old) = omega (arith, length-append x (drop (3 * i) old), length-drop (3 * i) old) in
-    let t : take (3 * i) (x ++ drop (3 * i) old) ≡ x = take-at x (drop (3 * i) old) (3 * i) n in
-    let d : drop (3 * i + 3) (x ++ drop (3 * i) old) ≡ drop (3 * (i + 1)) old
-    = ap (λ (k : ℕ). drop (k + 3) (x ++ drop (3 * i) old)) (sym n) ∙ drop-append-add x (drop (3 * i) old) 3 ∙ drop-drop 3 (3 * i) old ∙ ap (λ (k : ℕ). drop k old) (three i) in
-    let more : take (i + 1) bs ≡ take i bs ++ (getD bs i 0 ∷ []) = rw (add-one i) (take-suc bs i 0 h) in
-    let w : x ++ v ≡ hexadecimal (take (i + 1) bs) = sym (ap hexadecimal more ∙ text-more (take i bs) (getD bs i 0)) in
-    sets-eq v (x ++ drop (3 * i) old) (3 * i) long ∙ ap (λ (l : List ℕ). l ++ v ++ drop (3 * i + 3) (x ++ drop (3 * i) old)) t ∙ ap (λ (l : List ℕ). x ++ v ++ l) d
-    ∙ ap (λ (l : List ℕ). l ++ drop (3 * (i + 1)) old) w
+one : (old : List ℕ) (at b : ℕ) → Put old at (b ∷ []) (at + 1) (set old at b)
+one old at b = record { place = refl; bytes = refl }
+
+pub then : {a b c xs ys : List ℕ} {at r s : ℕ} → Put a at xs r b → Put b r ys s c → Put a at (xs ++ ys) s c
+then {a} {b} {c} {xs} {ys} {at} {r} {s} p q =
+    record {
+      place = omega (arith, p .place, q .place, length-append xs ys);
+      bytes = q .bytes ∙ ap (λ (l : List ℕ). sets l r ys) (p .bytes) ∙ ap (λ (k : ℕ). sets (sets a at xs) k ys) (p .place) ∙ sets-append a at xs ys;
+    }
+
+pub same-text : {old new xs ys : List ℕ} {at r : ℕ} → xs ≡ ys → Put old at xs r new → Put old at ys r new
+same-text {old} {new} {xs} {ys} {at} {r} e p = subst (λ (l : List ℕ). Put old at l r new) e p
+
+-- a text at the start of a buffer
+pub whole : {old new xs : List ℕ} {r : ℕ} → Put old 0 xs r new → r ≤ length old → (r ≡ length xs) × (new ≡ xs ++ drop r old)
+whole {old} {new} {xs} {r} p fits =
+    let n : length xs ≡ r = omega (arith, p .place) in
+    let z : 0 + length xs ≡ r = omega arith in
+    (sym n, p .bytes ∙ sets-eq xs old 0 (omega arith) ∙ ap (λ (k : ℕ). xs ++ drop k old) z)
+
+-- ---- a text in the making: rest is still due at r
+
+pub record Unfinished (old : List ℕ) (at : ℕ) (xs : List ℕ) (r : ℕ) (rest new : List ℕ) : Type 0 where
+  pub place : r + length rest ≡ at + length xs
+  pub bytes : sets new r rest ≡ sets old at xs
+
+pub due-all : (old : List ℕ) (at : ℕ) (xs : List ℕ) → Unfinished old at xs at xs old
+due-all old at xs = record { place = refl; bytes = refl }
+
+pub due-less : {old b c xs ys rest : List ℕ} {at r s : ℕ} → Unfinished old at xs r (ys ++ rest) b → Put b r ys s c → Unfinished old at xs s rest c
+due-less {old} {b} {c} {xs} {ys} {rest} {at} {r} {s} d p =
+    record {
+      place = omega (arith, d .place, p .place, length-append ys rest);
+      bytes = ap (λ (l : List ℕ). sets l s rest) (p .bytes) ∙ ap (λ (k : ℕ). sets (sets b r ys) k rest) (p .place) ∙ sets-append b r ys rest ∙ d .bytes;
+    }
+
+pub due-none : {old new xs : List ℕ} {at r : ℕ} → Unfinished old at xs r [] new → Put old at xs r new
+due-none d = record { place = omega (arith, d .place); bytes = d .bytes }
+
+-- ---- what is due next, and first
+pub spaced-next : (f : ℕ → List ℕ) (xs : List ℕ) (i : ℕ) → i < length xs → spaced f (drop i xs) ≡ (blank ++ f (getD xs i 0)) ++ spaced f (drop (i + 1) xs)
+spaced-next f xs i h = rw (add-one i) (ap (spaced f) (drop-cons xs i 0 h))
+
+pub no-bytes : (bs : List ℕ) → length bs ≡ 0 → bs ≡ []
+no-bytes [] h = refl
+no-bytes (b ∷ bs) h = absurd (omega arith)
+
+pub hexadecimal-first : (bs : List ℕ) → 0 < length bs → hexadecimal bs ≡ spelled (getD bs 0 0) ++ spaced spelled (drop 1 bs)
+hexadecimal-first [] h = absurd (omega arith)
+hexadecimal-first (b ∷ bs) h = refl
+
+pub word-next : (old b xs : List ℕ) (at i : ℕ) → i < length xs → Unfinished old at xs (at + i) (drop i xs) b
+    → Unfinished old at xs (at + (i + 1)) (drop (i + 1) xs) (set b (at + i) (getD xs i 0))
+word-next old b xs at i h d =
+    let e : drop i xs ≡ getD xs i 0 ∷ drop (i + 1) xs = rw (add-one i) (drop-cons xs i 0 h) in
+    let s : at + i + 1 ≡ at + (i + 1) = omega arith in
+    subst (λ (k : ℕ). Unfinished old at xs k (drop (i + 1) xs) (set b (at + i) (getD xs i 0))) s
+    (due-less (subst (λ (l : List ℕ). Unfinished old at xs (at + i) l b) e d) (one b (at + i) (getD xs i 0)))
+
+-- ---- the digits of a number: the fewest are those of the definition
+
+below-power : (n : ℕ) → n < 10 ^ suc n
+below-power zero = omega arith
+below-power (suc n) = omega (arith, below-power n, pow-suc 10 (suc n))
+
+least-power : (n j : ℕ) → Fewest 10 1 n (suc (suc j)) → 10 ^ suc j ≤ n
+least-power n j w = let a : suc (suc j) - 1 ≡ suc j = omega arith in subst (λ (k : ℕ). 10 ^ k ≤ n) a (w .2 (omega arith))
+
+fewer : (n j : ℕ) → Fewest 10 1 n (suc (suc j)) → Fewest 10 1 (n / 10) (suc j)
+fewer n j w =
+    let b : suc j - 1 ≡ j = omega arith in
+    (omega arith, omega (arith, w .1, pow-suc 10 (suc j)), λ _. subst (λ (k : ℕ). 10 ^ k ≤ n / 10) (sym b) (omega (arith, pow-suc 10 j, least-power n j w)))
+
+ten-least : (n j : ℕ) → Fewest 10 1 n (suc (suc j)) → 10 ≤ n
+ten-least n j w = omega (arith, least-power n j w, pow-suc 10 j, one-le-pow j 10 (omega arith))
+
+pub digits-few : (k n f : ℕ) → Fewest 10 1 n k → n < 10 ^ suc f → k ≤ suc f
+digits-few zero n f w h = omega arith
+digits-few (suc zero) n f w h = omega arith
+digits-few (suc (suc j)) n zero w h = absurd (omega (arith, ten-least n j w))
+digits-few (suc (suc j)) n (suc f) w h = omega (arith, digits-few (suc j) (n / 10) f (fewer n j w) (omega (arith, pow-suc 10 (suc f))))
+
+decimal-by : (k n f : ℕ) → Fewest 10 1 n k → n < 10 ^ suc f → digits 10 k n ≡ decimalBy (suc f) n
+decimal-by zero n f w h = absurd (omega (arith, w .0))
+decimal-by (suc zero) n f w h =
+    let z : n / 10 ≡ 0 = omega (arith, w .1) in
+    ap (λ (m : ℕ). leading (λ m. decimalBy f m) m ++ (glyph (n % 10) ∷ [])) (sym z)
+decimal-by (suc (suc j)) n f w h = go (n / 10) f refl h (λ f b. decimal-by (suc j) (n / 10) f (fewer n j w) b)
   where
-    three : (i : ℕ) → 3 * i + 3 ≡ 3 * (i + 1)
-    three i = omega arith
+    go : (t f : ℕ) → n / 10 ≡ t → n < 10 ^ suc f → ((f : ℕ) → n / 10 < 10 ^ suc f → digits 10 (suc j) (n / 10) ≡ decimalBy (suc f) (n / 10))
+        → digits 10 (suc j) (n / 10) ++ (glyph (n % 10) ∷ []) ≡ leading (λ m. decimalBy f m) t ++ (glyph (n % 10) ∷ [])
+    go zero f e h r = absurd (omega (arith, ten-least n j w))
+    go (suc m) zero e h r = absurd (omega arith)
+    go (suc m) (suc f) e h r = ap (λ (l : List ℕ). l ++ (glyph (n % 10) ∷ [])) (r f (omega (arith, pow-suc 10 (suc f))) ∙ ap (decimalBy (suc f)) e)
+
+pub decimal-digits : (n k : ℕ) → Fewest 10 1 n k → digits 10 k n ≡ decimal n
+unfolding decimal
+decimal-digits n k w = decimal-by k n n w (below-power n)

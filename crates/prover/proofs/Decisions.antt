@@ -2,17 +2,17 @@
 -- Assumes nothing.
 use mathlib.Core.Path.{_≡_, sym, ap, _∙_, subst}
 use mathlib.Core.List.{List}
-use Prim.Native.Nat.{ℕ, _-_, _≤_, _<_}
+use Prim.Native.Nat.{ℕ, _≤_, _<_}
 use native.Mathlib.Decide.{decLt}
 use native.Mathlib.Omega.{arith}
 use Rattle.calculus.specs.declared.Kind.{Kind}
 use Rattle.calculus.specs.declared.Kind.the-variants.{Theorem, Refuted, Spent, Full}
 use Rattle.calculus.specs.declared.Outcome.{Outcome}
 use Rattle.calculus.specs.declared.Verdict.{Verdict}
-use Rattle.calculus.specs.Syntax.{Sequent, c}
+use Rattle.calculus.specs.Syntax.{Sequent}
 use Rattle.calculus.specs.Bytes.{question}
 use Rattle.calculus.specs.Reading.{accepted, refused, reading}
-use Rattle.calculus.specs.Tree.{tree, reductions, closings, outcome, verdict}
+use Rattle.calculus.specs.Tree.{tree, reductions, outcome, verdict}
 use Rattle.calculus.specs.Reply.{decideReply}
 use Rattle.calculus.proofs.Bounds.{theorem-true, theorem-exactly, refuted-false, reductions-bound, closings-bound, early}
 use Rattle.calculus.proofs.Budgets.{spent-exactly, spent-verdict, whole-verdict, spend-left}
@@ -21,7 +21,7 @@ use Rattle.question.specs.declared.Refusal.{Refusal}
 use Rattle.prover.specs.declared.Decision.the-variants.{Refused, Decided}
 use Rattle.prover.specs.Answers.{decisionOf, Truthful, openOne, Counted, Promised}
 
--- the verdict is Spent, or the tree's
+-- The verdict is Spent, or it is the tree's.
 kinds : {Q : Type 0} (b : ℕ) (S : Sequent) → (verdict b S .kind ≡ Spent → Q) → (verdict b S .kind ≡ tree S .end → Q) → Q
 kinds {Q} b S f g = go (decLt b (reductions (tree S .events)))
   where

@@ -25,7 +25,8 @@ use Rattle.sequent.proofs.Lanes.{lane-length}
 use Rattle.sequent.proofs.Changes.{sides}
 use Rattle.sequent.proofs.Premises.{element}
 use Rattle.reduction.specs.declared.Reduction.{Reduction}
-use Rattle.reduction.specs.Reduction.{compoundAt, premiseBy, Reduces}
+use Rattle.sequent.specs.Compounds.{compoundAt}
+use Rattle.reduction.specs.Reduction.{premiseBy, Reduces}
 use Rattle.reduction.proofs.Reductions.{premisesWith, premises-rule, premise-stands, placed-size}
 use Rattle.prover.specs.Inner.{ReadyAt}
 
@@ -46,7 +47,7 @@ module _ (q : List ℕ) (s : Running) (good : Good q s) (items : length (s .item
         compound = (compoundAt q p, ap (formulaAt q) (sym (ready .found .position)) ∙ ready .found .compound);
       }
 
-  -- the formula stands there
+  -- The compound at position p stands at place i of its side.
   stands : Due (sequentOf q s) t i (compoundAt q p)
   stands =
       ap (λ l. getElem? l i) (on-formulas t) ∙ element (formulaAt q) (view t s) i 0 (ready .found .inside)
@@ -62,7 +63,7 @@ module _ (q : List ℕ) (s : Running) (good : Good q s) (items : length (s .item
   smaller-all : Each (Smaller (sequentOf q s)) (premisesWith t i (sequentOf q s) (compoundAt q p) (r .rule))
   smaller-all = subst (Each (Smaller (sequentOf q s))) premises-are (smaller t i (compoundAt q p) (sequentOf q s) stands)
 
-  -- the first premise
+  -- The first premise fits the room and is smaller, and a running sequent of its places stands for it.
   pub first-fits : size (premise t i (places s) (placed (r .rule .first) (r .f) (r .g))) ≤ ROOM
   first-fits =
       rw (placed-size q s t i (r .rule .first) (r .f) (r .g) (compoundAt q p) (ready .found .inside))
@@ -74,7 +75,7 @@ module _ (q : List ℕ) (s : Running) (good : Good q s) (items : length (s .item
   pub first-stands : (n : Running) → places n ≡ premise t i (places s) (placed (r .rule .first) (r .f) (r .g)) → sequentOf q n ≡ premiseBy t i (sequentOf q s) (compoundAt q p) (r .rule .first)
   first-stands n e = premise-stands q s n t i (r .rule .first) (r .f) (r .g) (compoundAt q p) (how .first) (how .second) e
 
-  -- the second, if any
+  -- The second premise of a rule with two fits the room and is smaller, and a running sequent of its places stands for it.
   module _ (two : r .rule .premises ≡ 2) where
     both : premisesWith t i (sequentOf q s) (compoundAt q p) (r .rule)
         ≡ premiseBy t i (sequentOf q s) (compoundAt q p) (r .rule .first) ∷ premiseBy t i (sequentOf q s) (compoundAt q p) (r .rule .second) ∷ []
@@ -84,8 +85,12 @@ module _ (q : List ℕ) (s : Running) (good : Good q s) (items : length (s .item
     second-fits =
         rw (placed-size q s t i (r .rule .second) (r .f) (r .g) (compoundAt q p) (ready .found .inside))
         (ltb-false ROOM (size second)
-        (or-false-both (ltb ROOM (size second)) false (or-false-both (ltb ROOM (size (premiseBy t i (sequentOf q s) (compoundAt q p) (r .rule .first)))) (ltb ROOM (size second) || false) (ap (fold ANY (λ P. ltb ROOM (size P))) (sym both) ∙ no-over) .1) .0))
+        (or-false-both (ltb ROOM (size second)) false
+        (or-false-both (ltb ROOM (size first)) (ltb ROOM (size second) || false) (ap (fold ANY (λ P. ltb ROOM (size P))) (sym both) ∙ no-over) .1) .0))
       where
+        first : Sequent
+        first = premiseBy t i (sequentOf q s) (compoundAt q p) (r .rule .first)
+
         second : Sequent
         second = premiseBy t i (sequentOf q s) (compoundAt q p) (r .rule .second)
 

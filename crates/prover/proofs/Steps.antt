@@ -6,7 +6,7 @@ use mathlib.Core.Option.{none, some}
 use mathlib.Core.List.{List, map}
 use Prim.Native.Nat.{ℕ, zero, suc, _+_, _≤_, _<_}
 use native.Mathlib.Omega.{arith}
-use lib.Dec.{eqb, ltb}
+use lib.Dec.{ltb}
 use lib.ListN.{length, length-take, length-map}
 use borrow.Author.Tests.{lt-ltb, le-ltb, eq-eqb, ne-eqb}
 use Rattle.calculus.specs.declared.Side.{Side}
@@ -15,7 +15,7 @@ use Rattle.calculus.specs.Fold.{fold, ANY, choose}
 use Rattle.calculus.specs.Limits.{ROOM}
 use Rattle.calculus.specs.Syntax.{on-side, size}
 use Rattle.calculus.specs.Table.{table, premises}
-use Rattle.calculus.specs.Tree.{letters, state, closing, first, full, reduced, due, tests, step, Inner, isClosed, isOpen, isFull, isSpent, isDue, afford, inner}
+use Rattle.calculus.specs.Tree.{letters, state, closing, first, full, reduced, due, tests, isClosed, isOpen, isFull, isSpent, isDue, afford, inner}
 use Rattle.question.specs.Positions.{formulaAt}
 use Rattle.sequent.specs.declared.Running.{Running}
 use Rattle.sequent.specs.declared.Rule.{Rule}
@@ -24,8 +24,9 @@ use Rattle.sequent.specs.Rule.{premiseOf, premisesOf, sided}
 use Rattle.sequent.proofs.Lanes.{lane-length}
 use Rattle.sequent.proofs.Changes.{sides}
 use Rattle.sequent.proofs.Premises.{ones}
-use Rattle.reduction.specs.declared.Place.the-variants.{At, Nowhere}
-use Rattle.reduction.specs.Reduction.{compoundAt, FoundAt, Found, overfullOf}
+use Rattle.sequent.specs.declared.Place.the-variants.{At, Nowhere}
+use Rattle.sequent.specs.Compounds.{compoundAt, FoundAt, Found}
+use Rattle.reduction.specs.Reduction.{overfullOf}
 use Rattle.reduction.proofs.Reductions.{places-size, premises-with, overfull}
 use Rattle.prover.specs.Inner.{ReadyAt}
 

@@ -12,12 +12,12 @@ use Rattle.calculus.specs.Table.{premises}
 use Rattle.calculus.specs.Tree.{Inner, isClosed, isOpen, isFull, isSpent, isDue, inner}
 use Rattle.sequent.specs.declared.Running.{Running}
 use Rattle.sequent.specs.View.{sequentOf}
-use Rattle.reduction.specs.Reduction.{compoundAt, FoundAt}
-use Rattle.prover.specs.declared.Due.{Due}
-use Rattle.prover.specs.declared.Due.the-variants.{Closed, Open, Full, Spent, Reduce}
+use Rattle.sequent.specs.Compounds.{compoundAt, FoundAt}
+use Rattle.prover.specs.declared.Finding.{Finding}
+use Rattle.prover.specs.declared.Finding.the-variants.{Closed, Open, Full, Spent, Reduce}
 
 -- document 01's outcome of the tests, for each answer
-abbrev pub innerOf : List ℕ → Due → Inner
+abbrev pub innerOf : List ℕ → Finding → Inner
 innerOf q (Closed k) = isClosed k
 innerOf q (Open σ) = isOpen σ
 innerOf q Full = isFull
@@ -30,14 +30,14 @@ pub record ReadyAt (q : List ℕ) (s : Running) (left : ℕ) (t : Side) (i p : �
   pub fits : fold ANY (λ P. ltb ROOM (size P)) (premises t i (compoundAt q p) (sequentOf q s)) ≡ false
   pub affords : 0 < left
 
-abbrev pub Ready : List ℕ → Running → ℕ → Due → Type 0
+abbrev pub Ready : List ℕ → Running → ℕ → Finding → Type 0
 Ready q s left (Closed k) = Unit {0}
 Ready q s left (Open σ) = Unit {0}
 Ready q s left Full = Unit {0}
 Ready q s left Spent = Unit {0}
 Ready q s left (Reduce t i p) = ReadyAt q s left t i p
 
-pub record Stepped (q : List ℕ) (s : Running) (left : ℕ) (r : Due) : Type 0 where
+pub record Stepped (q : List ℕ) (s : Running) (left : ℕ) (r : Finding) : Type 0 where
   pub inner : innerOf q r ≡ inner left (sequentOf q s)
   pub ready : Ready q s left r
 

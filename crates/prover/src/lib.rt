@@ -1,26 +1,28 @@
 // The inner step on a running sequent, and the call that decides.
 use calculus::Side;
 use calculus::Verdict;
+use calculus::wide;
 use question::Reading;
 use question::Refusal;
-use reduction::Place;
+use sequent::Place;
 use sequent::ROOM;
 use sequent::Rule;
 use sequent::Running;
 ghost use mathlib.Core.Path.{_≡_};
-ghost use Prim.Native.Nat.{ℕ, _+_, _≤_, _<_};
+ghost use Prim.Native.Nat.{_+_, _≤_, _<_};
 ghost use Rattle.calculus.specs.Limits;
 ghost use Rattle.calculus.specs.Bytes.{question};
 ghost use Rattle.calculus.specs.Reading.{reading, accepted};
 ghost use Rattle.calculus.specs.Reply.{decideReply};
 ghost use Rattle.calculus.specs.Tree.{verdict, afford, due};
 ghost use Rattle.sequent.specs.View.{sequentOf, Good};
-ghost use Rattle.reduction.specs.Reduction.{compoundAt, FoundAt, overfullOf};
+ghost use Rattle.sequent.specs.Compounds.{compoundAt, FoundAt};
+ghost use Rattle.reduction.specs.Reduction.{overfullOf};
 ghost use Rattle.prover.specs.Answers.{decisionOf, Promised};
 ghost use Rattle.prover.specs.Inner.{innerOf, Ready, Stepped};
 
 // What is due at a sequent, with the reductions left.
-pub enum Due {
+pub enum Finding {
     // A letter stands on both sides: the lowest.
     Closed(u32),
     // No connective is left: the state.
@@ -45,14 +47,8 @@ fn overfull(rule: Rule, n: usize) -> bool
     false
 }
 
-fn wide(p: u8) -> usize
-    ensures { λ r. ⌜ r ≡ p ⌝ }
-{
-    p as usize
-}
-
 // The tests at a sequent whose first compound is at a place of a side: FULL, SPENT, then the reduction.
-fn due_at(q: &[u8], s: Running, side: Side, at: usize, p: u8, left: u64) -> Due
+fn due_at(q: &[u8], s: Running, side: Side, at: usize, p: u8, left: u64) -> Finding
     requires { ⌜ Good (now q) s × FoundAt (now q) s side at p ⌝ }
     ensures { λ r. ⌜
         (innerOf (now (q .entry)) r
@@ -61,28 +57,28 @@ fn due_at(q: &[u8], s: Running, side: Side, at: usize, p: u8, left: u64) -> Due
 {
     let rule = sequent::rule_of(q[wide(p)], side);
     if overfull(rule, s.lefts + s.rights) {
-        return Due::Full;
+        return Finding::Full;
     }
     if left == 0 {
-        return Due::Spent;
+        return Finding::Spent;
     }
-    Due::Reduce(side, at, p)
+    Finding::Reduce(side, at, p)
 }
 
 // The inner step: one sequent through the tests in their order, with the reductions left. Its answer says what is due and
 // does nothing, so that no run made from it goes on after SPENT.
-pub fn step(q: &[u8], s: Running, left: u64) -> Due
+pub fn step(q: &[u8], s: Running, left: u64) -> Finding
     requires { ⌜ Good (now q) s ⌝ }
     ensures { λ r. ⌜ Stepped (now (q .entry)) s left r ⌝ }
 {
     let shared = s.leftmask & s.rightmask;
     if shared != 0 {
-        return Due::Closed(u32::trailing_zeros(shared));
+        return Finding::Closed(u32::trailing_zeros(shared));
     }
-    let place = reduction::first_compound(s, q);
+    let place = s.first_compound(q);
     match place {
         Place::At(side, at, p) => due_at(q, s, side, at, p, left),
-        Place::Nowhere => Due::Open(s.leftmask),
+        Place::Nowhere => Finding::Open(s.leftmask),
     }
 }
 

@@ -10,8 +10,7 @@ use lib.ListN.{length, take, drop, getD, getElem?, length-append, length-drop}
 use lib.Seq.{drop-drop, drop-append-add, getD-append-add, take-append-seam, take-length}
 use Rattle.calculus.specs.declared.Side.{Side}
 use Rattle.calculus.specs.declared.Side.the-variants.{Left, Right}
-use Rattle.calculus.specs.declared.Part.{Part}
-use Rattle.calculus.specs.Syntax.{Formula, Sequent, on-side}
+use Rattle.calculus.specs.Syntax.{Formula, on-side}
 use Rattle.calculus.specs.Bytes.{encode, encodeAll, encodeSide, encodeSequent, formulas, bytes, bytesAll, question, sideStart, startOf}
 use Rattle.calculus.specs.Reading.{Reading, accepted, refused, reading}
 use Rattle.calculus.specs.Reply.{formulaPart, formulaBytes}
@@ -48,7 +47,7 @@ module _ (q : List ℕ) (a : reading q ≡ accepted) where
       go Right h = (omega arith, omega (arith, length-append (encodeSide Left (question q .on-left)) (encodeSide Right (question q .on-right))))
 
   -- from there on they are written out
-  pub side-written : (s : Side) → (t : List ℕ) × (drop (sideStart s (question q)) q ≡ encodeAll (on-side s (question q)) ++ t)
+  side-written : (s : Side) → (t : List ℕ) × (drop (sideStart s (question q)) q ≡ encodeAll (on-side s (question q)) ++ t)
   side-written Left = (encodeSide Right (question q .on-right), ap (drop 2) (sym coded))
   side-written Right =
       let S = question q in
@@ -67,12 +66,12 @@ module _ (q : List ℕ) (a : reading q ≡ accepted) where
 
 -- ---- the formula at a place
 
-pub element-first : (xs : List Formula) (i : ℕ) → i < length xs → getElem? xs i ≡ some (firstOf (drop i xs))
+element-first : (xs : List Formula) (i : ℕ) → i < length xs → getElem? xs i ≡ some (firstOf (drop i xs))
 element-first [] i h = absurd (omega arith)
 element-first (x ∷ xs) zero h = refl
 element-first (x ∷ xs) (suc i) h = element-first xs i (omega arith)
 
-pub element-none : (xs : List Formula) (i : ℕ) → length xs ≤ i → getElem? xs i ≡ none
+element-none : (xs : List Formula) (i : ℕ) → length xs ≤ i → getElem? xs i ≡ none
 element-none [] i h = refl
 element-none (x ∷ xs) zero h = absurd (omega arith)
 element-none (x ∷ xs) (suc i) h = element-none xs i (omega arith)
@@ -110,12 +109,12 @@ module _ (q : List ℕ) (a : reading q ≡ accepted) (s : Side) (i : ℕ) (h : i
       rw (← drop-drop (bytesAll (take i xs)) (sideStart s (question q)) q, w .1, drop-written xs i (w .0))
       (written-first (drop i xs) (w .0) (omega (arith, length-drop i xs)))
 
-  pub part-own : partBytes (formulaPart q s i) q ≡ formulaBytes q s i
+  part-own : partBytes (formulaPart q s i) q ≡ formulaBytes q s i
   part-own = rw (a, element-first (on-side s (question q)) i h) own-part
 
 -- ---- the part handed out, for every question and place
 
-pub part-refused : (q : List ℕ) (s : Side) (i n p : ℕ) → reading q ≡ refused n p → record { start = 0; count = 0 } ≡ formulaPart q s i
+part-refused : (q : List ℕ) (s : Side) (i n p : ℕ) → reading q ≡ refused n p → record { start = 0; count = 0 } ≡ formulaPart q s i
 part-refused q s i n p e = rw e
 
 pub part-none : (q : List ℕ) → reading q ≡ accepted → (s : Side) (i : ℕ) → length (on-side s (question q)) ≤ i → record { start = 0; count = 0 } ≡ formulaPart q s i

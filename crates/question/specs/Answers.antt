@@ -1,12 +1,16 @@
 -- Document 01's number and place of each answer of the reader.
+use mathlib.Core.Path.{_≡_}
+use mathlib.Core.Bool.{Bool, false}
 use mathlib.Core.List.{List}
-use Prim.Native.Nat.{ℕ, _+_, _-_, _≤_}
+use Prim.Native.Nat.{ℕ, zero, suc, _+_, _≤_}
+use lib.Dec.{eqb, leb}
 use lib.ListN.{length, drop}
-use Rattle.calculus.specs.declared.Side.{Side}
+use Rattle.calculus.specs.declared.Side.the-variants.{Left, Right}
 use Rattle.calculus.specs.declared.Expected.{Expected}
+use Rattle.calculus.specs.declared.Expected.the-variants.{Head}
+use Rattle.calculus.specs.Fold.{choose}
 use Rattle.calculus.specs.Limits.{LONGEST, FORMULAS, CONNECTIVES, TOO-LONG, CUT, WRONG-COMMAND, MANY-FORMULAS, NO-SUCH-LETTER, MANY-CONNECTIVES, LEFT-OVER}
-use Rattle.calculus.specs.Reading.{Reading as Result, accepted, refused, after, begin, goOn, read}
-use Rattle.calculus.specs.Bytes.{command}
+use Rattle.calculus.specs.Reading.{Reading as Result, accepted, refused, after, read}
 use Rattle.question.specs.declared.Refusal.{Refusal}
 use Rattle.question.specs.declared.Refusal.the-variants.{TooLong, Cut, WrongCommand, ManyFormulas, NoSuchLetter, ManyConnectives, LeftOver}
 use Rattle.question.specs.declared.Reading.{Reading}
@@ -39,33 +43,39 @@ readingOf (Refused r) = refused (numberOf r) (placeOf r)
 
 -- ---- from a cursor on
 
--- a cursor in a question that is not too long
-abbrev pub Within : List ℕ → Cursor → Type 0
-Within q k = (length q ≤ LONGEST) × (k .at ≤ length q) × (k .due ≤ FORMULAS + k .connectives) × (k .connectives ≤ CONNECTIVES)
+-- what is expected where so many sides' commands are to come and so many formulas are due
+abbrev pub expectedBy : ℕ → ℕ → Expected
+expectedBy zero d = after Right d
+expectedBy (suc zero) d = after Left d
+expectedBy (suc (suc n)) d = Head Left
+
+-- what is expected at a cursor
+abbrev pub expectedOf : Cursor → Expected
+expectedOf k = expectedBy (k .sides) (k .due)
+
+-- the end is expected at a cursor, and is there
+abbrev pub done : List ℕ → Cursor → Bool
+done q k = choose (leb (length q) (k .at)) (choose (eqb (k .due) 0) (eqb (k .sides) 0) false) false
+
+-- a cursor in a question that is not too long; no formula is due before the first side's command
+pub record Within (q : List ℕ) (k : Cursor) : Type 0 where
+  pub short : length q ≤ LONGEST
+  pub inside : k .at ≤ length q
+  pub room : k .due ≤ FORMULAS + k .connectives
+  pub counted : k .connectives ≤ CONNECTIVES
+  pub two-sides : k .sides ≤ 2
+  pub first : 2 ≤ k .sides → k .due ≡ 0
 
 -- a next cursor is one, and not before a place
 abbrev pub Onwards : List ℕ → ℕ → Step → Type 0
 Onwards q at (Next k) = Within q k × (at ≤ k .at)
 Onwards q at (Stop r) = Unit {0}
 
--- the reading from a cursor on, where e is expected
-abbrev pub readAt : List ℕ → Expected → Cursor → Result
-readAt q e k = read (drop (k .at) q) e (k .connectives) (k .at)
-
--- the formulas due being those of side s
-abbrev pub readFrom : List ℕ → Side → Cursor → Result
-readFrom q s k = readAt q (after s (k .due)) k
+-- the reading from a cursor on
+abbrev pub readFrom : List ℕ → Cursor → Result
+readFrom q k = read (drop (k .at) q) (expectedOf k) (k .connectives) (k .at)
 
 -- the reading after a step
-abbrev pub steps : List ℕ → Side → Step → Result
-steps q s (Next k) = readFrom q s k
-steps q s (Stop r) = refused (numberOf r) (placeOf r)
-
--- the reading after a formula's command b at a cursor
-abbrev pub begun : List ℕ → Side → Cursor → ℕ → Result
-begun q s k b = goOn (begin (command b) s (k .due - 1) (k .connectives)) (k .at) (λ e c. read (drop (k .at + 1) q) e c (k .at + 1))
-
--- the reading after the formulas of side s
-abbrev pub passes : List ℕ → Side → Step → Result
-passes q s (Next k) = readAt q (after s 0) k
-passes q s (Stop r) = refused (numberOf r) (placeOf r)
+abbrev pub steps : List ℕ → Step → Result
+steps q (Next k) = readFrom q k
+steps q (Stop r) = refused (numberOf r) (placeOf r)

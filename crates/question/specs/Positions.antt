@@ -36,3 +36,7 @@ dueAfter d b = choose (eqb b 1) (d - 1) (choose (eqb b 2) d (d + 1))
 -- the bytes of a part
 abbrev pub partBytes : Part → List ℕ → List ℕ
 partBytes p q = take (p .count) (drop (p .start) q)
+
+-- where a part starts, if the question starts at this block and offset of the memory
+abbrev pub partAt : Part → ℕ × ℕ → ℕ × ℕ
+partAt p at = (at .0, p .start + at .1)

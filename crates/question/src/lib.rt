@@ -2,18 +2,20 @@
 use calculus::Expected;
 use calculus::Part;
 use calculus::Side;
+use calculus::wide;
 ghost use mathlib.Core.Path.{_≡_};
 ghost use Prim.Native.Nat.{ℕ, _+_, _-_, _^_, _≤_, _<_};
 ghost use mathlib.Core.List.{List};
-ghost use lib.ListN.{length, take, drop};
+ghost use mathlib.Core.Bool.{false};
+ghost use lib.ListN.{length, take, drop, getD};
 ghost use Rattle.calculus.specs.Limits.{LONGEST, FORMULAS};
 ghost use Rattle.calculus.specs.Syntax.{on-side};
-ghost use Rattle.calculus.specs.Bytes.{SIDE, code, formulas, bytesAll, question, sideStart};
+ghost use Rattle.calculus.specs.Bytes.{SIDE, LETTER, code, formulas, bytesAll, question, sideStart};
 ghost use Rattle.calculus.specs.Reading.{accepted, reading};
 ghost use Rattle.calculus.specs.Reply.{formulaPart, formulaBytes};
-ghost use Rattle.question.specs.Answers.{numberOf, placeOf, readingOf, begun, Within, Onwards};
-ghost use Rattle.question.specs.Answers.{readAt, readFrom, steps, passes};
-ghost use Rattle.question.specs.Positions.{Well, endOf, commandLength, dueAfter, partBytes};
+ghost use Rattle.question.specs.Answers.{numberOf, placeOf, readingOf};
+ghost use Rattle.question.specs.Answers.{expectedOf, done, Within, Onwards, readFrom, steps};
+ghost use Rattle.question.specs.Positions.{Well, endOf, commandLength, dueAfter, partBytes, partAt};
 
 // The limits of document 01.
 pub const LONGEST_QUESTION: usize = 212;
@@ -51,7 +53,7 @@ impl Refusal {
         }
     }
 
-    // Its place.
+    // The place of the refusal.
     pub fn place(self) -> usize
         ensures { λ r. ⌜ r ≡ placeOf self ⌝ }
     {
@@ -72,11 +74,13 @@ pub enum Reading {
     Refused(Refusal),
 }
 
-// Where the reader is: the connectives so far, the place of the next byte, and the formulas of the side that are due there.
+// Where the reader is: the connectives so far, the place of the next byte, the formulas due there, and the sides whose
+// command is to come.
 pub struct Cursor {
     pub connectives: u8,
     pub at: usize,
     pub due: u8,
+    pub sides: u8,
 }
 
 pub enum Step {
@@ -95,11 +99,33 @@ fn head_of(side: Side) -> u8
 }
 
 impl Cursor {
-    // The operand of the letter at the cursor.
+    // What is expected: a formula while some are due, else the command of the next side, else the end.
+    fn expected(self) -> Expected
+        requires { ⌜ (2 ≤ self .sides → self .due ≡ 0) ⌝ }
+        ensures { λ r. ⌜ r ≡ expectedOf self ⌝ }
+    {
+        let sides = self.sides;
+        if 0 < self.due {
+            let side = if sides == 0 { Side::Right } else { Side::Left };
+            return Expected::Formula(side, wide(self.due - 1));
+        }
+        match sides {
+            0 => Expected::End,
+            1 => Expected::Head(Side::Right),
+            _ => Expected::Head(Side::Left),
+        }
+    }
+
+    // The letter at the cursor, with its operand.
     fn letter(self, q: &[u8]) -> Step
-        requires { ⌜ Within (now q) self × (self .at < length (now q)) × (1 ≤ self .due) ⌝ }
+        requires { ⌜
+            Within (now q) self
+            × (self .at < length (now q))
+            × (getD (now q) (self .at) 0 ≡ code LETTER)
+            × (1 ≤ self .due)
+            × (self .sides ≤ 1) ⌝ }
         ensures { λ r. ⌜
-            ((s : Side) → steps (now (q .entry)) s r ≡ begun (now (q .entry)) s self 1)
+            (steps (now (q .entry)) r ≡ readFrom (now (q .entry)) self)
             × Onwards (now (q .entry)) (self .at + 1) r ⌝ }
     {
         let operand = self.at + 1;
@@ -113,6 +139,7 @@ impl Cursor {
             connectives: self.connectives,
             at: operand + 1,
             due: self.due - 1,
+            sides: self.sides,
         })
     }
 
@@ -122,11 +149,11 @@ impl Cursor {
             (self .at ≤ LONGEST)
             × (1 ≤ self .due)
             × (self .due ≤ FORMULAS + self .connectives)
+            × (self .sides ≤ 1)
             × (2 ≤ b)
             × (b ≤ 6) ⌝ }
-        ensures { λ r. ⌜
-            ((q : List ℕ) (s : Side) → steps q s r ≡ begun q s self b)
-            × ((q : List ℕ) → Within q self → self .at < length q → Onwards q (self .at + 1) r) ⌝ }
+        ensures { λ r. ⌜ ((q : List ℕ) → Within q self → self .at < length q → getD q (self .at) 0 ≡ b
+            → (steps q r ≡ readFrom q self) × Onwards q (self .at + 1) r) ⌝ }
     {
         let behind = self.at + 1;
         if MOST_CONNECTIVES <= self.connectives {
@@ -136,40 +163,23 @@ impl Cursor {
             connectives: self.connectives + 1,
             at: behind,
             due: if b == 2 { self.due } else { self.due + 1 },
+            sides: self.sides,
         })
     }
 
-    // A formula is expected: the command at the cursor, with a letter's operand, gives a refusal or the next cursor.
-    fn formula(self, q: &[u8]) -> Step
-        requires { ⌜ Within (now q) self × (1 ≤ self .due) ⌝ }
+    // The byte b at the cursor where a side's command is expected, with its count.
+    fn head(self, q: &[u8], b: u8, side: Side) -> Step
+        requires { ⌜
+            Within (now q) self
+            × (self .at < length (now q))
+            × (getD (now q) (self .at) 0 ≡ b)
+            × (expectedOf self ≡ Expected.Head side) ⌝ }
         ensures { λ r. ⌜
-            ((s : Side) → steps (now (q .entry)) s r ≡ readFrom (now (q .entry)) s self)
+            (steps (now (q .entry)) r ≡ readFrom (now (q .entry)) self)
             × Onwards (now (q .entry)) (self .at + 1) r ⌝ }
     {
         let at = self.at;
-        if q.len() <= at {
-            return Step::Stop(Refusal::Cut(at));
-        }
-        let b = q[at];
-        match b {
-            1 => self.letter(q),
-            2..=6 => self.connective(b),
-            _ => Step::Stop(Refusal::WrongCommand(at)),
-        }
-    }
-
-    // A side is expected: its command and its count.
-    fn head(self, q: &[u8], side: Side) -> Step
-        requires { ⌜ Within (now q) self ⌝ }
-        ensures { λ r. ⌜
-            (steps (now (q .entry)) side r ≡ readAt (now (q .entry)) (Expected.Head side) self)
-            × Onwards (now (q .entry)) 0 r ⌝ }
-    {
-        let at = self.at;
-        if q.len() <= at {
-            return Step::Stop(Refusal::Cut(at));
-        }
-        if q[at] != head_of(side) {
+        if b != head_of(side) {
             return Step::Stop(Refusal::WrongCommand(at));
         }
         let count = at + 1;
@@ -183,73 +193,47 @@ impl Cursor {
             connectives: self.connectives,
             at: count + 1,
             due: q[count],
+            sides: self.sides - 1,
         })
     }
 
-    // All formulas that are due.
-    fn formulas(self, q: &[u8]) -> Step
-        requires { ⌜ Within (now q) self ⌝ }
-        ensures { λ r. ⌜
-            ((s : Side) → passes (now (q .entry)) s r ≡ readFrom (now (q .entry)) s self)
-            × Onwards (now (q .entry)) 0 r ⌝ }
-    {
-        let mut cursor = self;
-        while 0 < cursor.due {
-            let step = cursor.formula(q);
-            match step {
-                Step::Next(c) => {
-                    cursor = c;
-                }
-                Step::Stop(r) => {
-                    return Step::Stop(r);
-                }
-            }
-        }
-        Step::Next(cursor)
-    }
-
-    // A side with its formulas.
-    fn side(self, q: &[u8], side: Side) -> Step
-        requires { ⌜ Within (now q) self ⌝ }
-        ensures { λ r. ⌜
-            (passes (now (q .entry)) side r ≡ readAt (now (q .entry)) (Expected.Head side) self)
-            × Onwards (now (q .entry)) 0 r ⌝ }
-    {
-        let step = self.head(q, side);
-        match step {
-            Step::Next(c) => c.formulas(q),
-            Step::Stop(r) => Step::Stop(r),
-        }
-    }
-
-    // The end is expected.
-    fn end(self, q: &[u8]) -> Reading
-        requires { ⌜ Within (now q) self ⌝ }
-        ensures { λ r. ⌜ readingOf r ≡ readAt (now (q .entry)) Expected.End self ⌝ }
+    // The end is expected, and is there.
+    fn done(self, q: &[u8]) -> bool
+        ensures { λ r. ⌜ r ≡ done (now (q .entry)) self ⌝ }
     {
         if self.at < q.len() {
-            return Reading::Refused(Refusal::LeftOver(self.at));
+            return false;
         }
-        Reading::Accepted
+        if self.due != 0 {
+            return false;
+        }
+        self.sides == 0
     }
 
-    // The right side is expected, then the end.
-    fn right_side(self, q: &[u8]) -> Reading
-        requires { ⌜ Within (now q) self ⌝ }
-        ensures { λ r. ⌜ readingOf r ≡ readAt (now (q .entry)) (Expected.Head Side.Right) self ⌝ }
+    // Goes on by one command with its operand: what is expected and the byte give a refusal or the next cursor.
+    fn next(self, q: &[u8]) -> Step
+        requires { ⌜ Within (now q) self × (done (now q) self ≡ false) ⌝ }
+        ensures { λ r. ⌜
+            (steps (now (q .entry)) r ≡ readFrom (now (q .entry)) self)
+            × Onwards (now (q .entry)) (self .at + 1) r ⌝ }
     {
-        let step = self.side(q, Side::Right);
-        match step {
-            Step::Next(c) => c.end(q),
-            Step::Stop(r) => Reading::Refused(r),
+        let at = self.at;
+        if q.len() <= at {
+            return Step::Stop(Refusal::Cut(at));
+        }
+        let b = q[at];
+        let expected = self.expected();
+        match expected {
+            Expected::Formula(_, _) => match b {
+                1 => self.letter(q),
+                2..=6 => self.connective(b),
+                _ => Step::Stop(Refusal::WrongCommand(at)),
+            },
+            Expected::Head(side) => self.head(q, b, side),
+            // The end: a cursor never stands at a count or an operand.
+            _ => Step::Stop(Refusal::LeftOver(at)),
         }
     }
-}
-
-fn wide(b: u8) -> usize
-    ensures { λ r. ⌜ r ≡ b ⌝ }
-{
-    b as usize
 }
 
 // Reads a question: accepted, or the first refusal that is met.
@@ -259,16 +243,24 @@ pub fn read(q: &[u8]) -> Reading
     if LONGEST_QUESTION < q.len() {
         return Reading::Refused(Refusal::TooLong);
     }
-    let start = Cursor {
+    let mut cursor = Cursor {
         connectives: 0,
         at: 0,
         due: 0,
+        sides: 2,
     };
-    let step = start.side(q, Side::Left);
-    match step {
-        Step::Next(c) => c.right_side(q),
-        Step::Stop(r) => Reading::Refused(r),
+    while !cursor.done(q) {
+        let step = cursor.next(q);
+        match step {
+            Step::Next(c) => {
+                cursor = c;
+            }
+            Step::Stop(r) => {
+                return Reading::Refused(r);
+            }
+        }
     }
+    Reading::Accepted
 }
 
 fn command_length(b: u8) -> usize
@@ -351,10 +343,11 @@ pub fn formula_part(q: &[u8], side: Side, place: usize) -> Part
     }
 }
 
-// The formula's own bytes of the question: none where it is refused or has no such place.
+// The formula's own bytes of the question: none where it is refused or has no such place. A slice's `ptr` is where it starts.
 pub fn formula(q: &[u8], side: Side, place: usize) -> &[u8]
     ensures own { λ r. ⌜ now r ≡ formulaBytes (now (q .entry)) side place ⌝ }
     ensures part { λ r. ⌜ now r ≡ partBytes (formulaPart (now (q .entry)) side place) (now (q .entry)) ⌝ }
+    ensures starts { λ r. ⌜ r .ptr ≡ partAt (formulaPart (now (q .entry)) side place) (q .entry .ptr) ⌝ }
 {
     let p = formula_part(q, side, place);
     let start = p.start;

@@ -8,8 +8,8 @@ ghost use lib.ListN.{length};
 fn read(q: &[u8]) {
     let reading = question::read(q);
     match reading {
-        Reading::Accepted => print::word(b"accepted\n"),
-        Reading::Refused(r) => print::refused(r),
+        Reading::Accepted => print::write_bytes(b"accepted", b""),
+        Reading::Refused(r) => print::write_refused(r),
     }
 }
 
@@ -110,19 +110,30 @@ fn longest() {
     read(&q);
 }
 
+// A side's name and a place; answers the place behind them.
+fn put_place(name: &[u8], place: usize, out: &mut [u8]) -> usize
+    requires { ⌜ (length (now name) ≤ 5) × (28 ≤ length (now out)) ⌝ }
+    ensures { λ r. ⌜ r ≤ 28 ⌝ }
+{
+    let behind = print::put_word(name, out, 0);
+    let end = print::put_number(place as u64, out, behind);
+    print::put_word(b": ", out, end)
+}
+
 // One line: a side, a place, and the formula handed out there.
 fn hand_out(q: &[u8], name: &[u8], side: Side, place: usize)
-    requires { ⌜ length (now q) ≤ 4096 ⌝ }
+    requires { ⌜ (length (now q) ≤ 212) × (length (now name) ≤ 5) ⌝ }
 {
     let f = question::formula(q, side, place);
-    print::word(name);
-    print::number(place as u64);
-    print::word(b": ");
+    let mut text = [0u8; 700];
+    let first = put_place(name, place, &mut text);
     if f.len() == 0 {
-        print::word(b"no bytes");
+        let end = print::put_word(b"no bytes\n", &mut text, first);
+        print::write(&text, end);
+        return;
     }
-    print::bytes(f);
-    print::end_line();
+    let end = print::put_bytes(f, &mut text, first);
+    print::write(&text, end);
 }
 
 // Case 4's question, with the place past the last on each side; then a question that is refused.

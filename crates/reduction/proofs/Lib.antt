@@ -1,4 +1,4 @@
 -- The laws behind the functions' proofs. Assumes nothing.
-pub mod Compounds
+pub mod Seconds
 pub mod Reductions
 pub mod Roots

@@ -3,7 +3,7 @@
 use mathlib.Core.Path.{_≡_, refl, sym, ap, _∙_}
 use mathlib.Core.Bool.{Bool, true, false, _||_, or-false}
 use mathlib.Core.List.{List, [], _∷_, _++_, map, map-append}
-use Prim.Native.Nat.{ℕ, suc, _+_, _-_, _<_}
+use Prim.Native.Nat.{ℕ, suc, _+_, _<_}
 use native.Mathlib.Decide.{decLt}
 use native.Mathlib.Omega.{arith}
 use lib.Dec.{eqb, ltb}
@@ -14,16 +14,18 @@ use Rattle.calculus.specs.declared.Side.the-variants.{Left, Right}
 use Rattle.calculus.specs.Fold.{fold, ANY, SUM, choose}
 use Rattle.calculus.specs.Limits.{ROOM}
 use Rattle.calculus.specs.Syntax.{Formula, Compound, Seq, Sequent, on-side, size}
-use Rattle.calculus.specs.Table.{Part, F, G, Put, L, R, table, fill, on, splice, premise, reduct, premises}
+use Rattle.calculus.specs.Table.{Part, F, G, Put, L, R, table, fill, on, splice, premise, premises}
 use Rattle.question.specs.Positions.{formulaAt}
 use Rattle.sequent.specs.declared.Running.{Running}
 use Rattle.sequent.specs.declared.Placing.{Placing}
 use Rattle.sequent.specs.declared.Rule.{Rule}
 use Rattle.sequent.specs.View.{view, places, sequentOf}
+use Rattle.sequent.specs.Compounds.{compoundAt}
 use Rattle.sequent.specs.Rule.{sideCode, keep, partsOn, premiseOf, premisesOf, sided, placed}
+use Rattle.sequent.proofs.Rows.{rows-of}
 use Rattle.sequent.proofs.Premises.{ones, on-left, on-right, map-splice}
 use Rattle.reduction.specs.declared.Reduction.{Reduction}
-use Rattle.reduction.specs.Reduction.{compoundAt, mapSeq, part, insert, premiseBy, Reduces, countOne, overfullOf}
+use Rattle.reduction.specs.Reduction.{mapSeq, part, insert, premiseBy, Reduces, countOne, overfullOf}
 
 -- ---- counting parts
 
@@ -65,7 +67,7 @@ premises-by t i x S rows e = go (table (x .connective) t) ∙ ap (map (λ P. ins
         = premise-insert t i S (map (fill (x .f) (x .g)) ps) ∙ ap (insert t i S) (sided-fill (x .f) (x .g) ps) in
         rw (h, go T)
 
--- one premise or two
+-- the premises of a rule: one or two
 abbrev pub premisesWith : Side → ℕ → Sequent → Compound → Rule → List Sequent
 premisesWith t i S x r = premiseBy t i S x (r .first) ∷ choose (eqb (r .premises) 2) (premiseBy t i S x (r .second) ∷ []) []
 
@@ -80,7 +82,7 @@ premises-with t i x S r e = premises-by t i x S (premisesOf r) e ∙ go (eqb (r 
 
 pub premises-rule : (q : List ℕ) (p : ℕ) (t : Side) (r : Reduction) → Reduces q p t r → (i : ℕ) (S : Sequent)
     → premises t i (compoundAt q p) S ≡ premisesWith t i S (compoundAt q p) (r .rule)
-premises-rule q p t r h i S = premises-with t i (compoundAt q p) S (r .rule) (h .rows)
+premises-rule q p t r h i S = premises-with t i (compoundAt q p) S (r .rule) (rows-of (compoundAt q p .connective) t (r .rule) (ap (λ (x : Reduction). x .rule) (h .exact)))
 
 -- ---- sizes
 
@@ -122,7 +124,7 @@ map-insert : (q : List ℕ) (t : Side) (i : ℕ) (S P : Seq ℕ) → mapSeq (for
 map-insert q Left i S P = λ j. record { on-left = map-splice (formulaAt q) i (P .on-left) (S .on-left) j; on-right = map-append (formulaAt q) (S .on-right) (P .on-right) j }
 map-insert q Right i S P = λ j. record { on-left = map-append (formulaAt q) (S .on-left) (P .on-left) j; on-right = map-splice (formulaAt q) i (P .on-right) (S .on-right) j }
 
--- it stands for the premise of the sequent that it stands for
+-- the premise of a running sequent stands for the premise of the sequent
 pub premise-stands : (q : List ℕ) (s r : Running) (t : Side) (i : ℕ) (p : Placing) (f g : ℕ) (x : Compound) → formulaAt q f ≡ x .f → formulaAt q g ≡ x .g
     → places r ≡ premise t i (places s) (placed p f g) → sequentOf q r ≡ premiseBy t i (sequentOf q s) x p
 premise-stands q s r t i p f g x h k e =
@@ -132,7 +134,7 @@ premise-stands q s r t i p f g x h k e =
       on-right = (ap (map (formulaAt q)) (on-right (partsOn Left p f g) (partsOn Right p f g)) ∙ parts-map q Right p f g (x .f) (x .g) h k) j;
     })
 
--- and holds as many formulas
+-- a running sequent holds as many formulas as its sequent
 pub places-size : (q : List ℕ) (s : Running) → size (sequentOf q s) ≡ size (places s)
 places-size q s = omega (arith, fold-parts (formulaAt q) (view Left s), fold-parts (formulaAt q) (view Right s))
 

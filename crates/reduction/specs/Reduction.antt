@@ -1,64 +1,25 @@
--- The compound at a position, the first compound of a running sequent, and how a compound reduces.
+-- How the compound at a position reduces, and the running sequent of a question.
 use mathlib.Core.Path.{_≡_}
 use mathlib.Core.Bool.{Bool, true, false, _||_}
 use mathlib.Core.List.{List, [], _∷_, _++_, map}
-use Prim.Native.Nat.{ℕ, suc, _+_, _≤_, _<_}
+use Prim.Native.Nat.{ℕ, _+_}
 use lib.Dec.{eqb, ltb}
-use lib.ListN.{length, take, getD}
+use lib.ListN.{take}
 use Rattle.calculus.specs.declared.Side.{Side}
 use Rattle.calculus.specs.declared.Side.the-variants.{Left, Right}
 use Rattle.calculus.specs.Fold.{choose}
 use Rattle.calculus.specs.Limits.{ROOM}
-use Rattle.calculus.specs.Syntax.{size, other, on-side, NOT, two, Formula, letter, neg, join, Compound, whole, Seq, Sequent}
-use Rattle.calculus.specs.Bytes.{question}
-use Rattle.calculus.specs.Table.{Part, F, G, table, splice}
-use Rattle.calculus.specs.Tree.{First, missing, here, first}
-use Rattle.question.specs.Positions.{Well, formulaAt}
+use Rattle.calculus.specs.Syntax.{size, other, on-side, Connective, NOT, two, Formula, Compound, Seq, Sequent}
+use Rattle.calculus.specs.Bytes.{bytes, question, sideStart}
+use Rattle.calculus.specs.Table.{Part, F, G, splice}
+use Rattle.question.specs.Positions.{Well, formulaAt, endOf}
 use Rattle.sequent.specs.declared.Running.{Running}
 use Rattle.sequent.specs.declared.Placing.{Placing}
 use Rattle.sequent.specs.declared.Rule.{Rule}
 use Rattle.sequent.specs.View.{view, formulasOf, Stands, Good}
-use Rattle.sequent.specs.Rule.{premiseOf, premisesOf, sided}
+use Rattle.sequent.specs.Compounds.{compoundAt}
+use Rattle.sequent.specs.Rule.{premiseOf, ruleOf}
 use Rattle.reduction.specs.declared.Reduction.{Reduction}
-use Rattle.reduction.specs.declared.Place.{Place}
-use Rattle.reduction.specs.declared.Place.the-variants.{At, Nowhere}
-
--- ---- a compound taken apart
-
-abbrev pub compoundOf : Formula → Compound
-compoundOf (letter k) = record { connective = NOT; f = letter k; g = letter k }
-compoundOf (neg x) = record { connective = NOT; f = x; g = x }
-compoundOf (join b x y) = record { connective = two b; f = x; g = y }
-
-abbrev pub compoundAt : List ℕ → ℕ → Compound
-compoundAt q p = compoundOf (formulaAt q p)
-
--- a formula with a connective
-abbrev pub IsCompound : Formula → Type 0
-IsCompound x = x ≡ whole (compoundOf x)
-
--- ---- the first formula with a connective
-
--- its place, or the number of formulas
-abbrev pub firstIn : List Formula → ℕ
-firstIn [] = 0
-firstIn (letter k ∷ xs) = suc (firstIn xs)
-firstIn (neg x ∷ xs) = 0
-firstIn (join b x y ∷ xs) = 0
-
--- the first of a side, found at place i and position p
-pub record FoundAt (q : List ℕ) (s : Running) (t : Side) (i p : ℕ) : Type 0 where
-  pub inside : i < length (view t s)
-  pub position : p ≡ getD (view t s) i 0
-  pub first : first (formulasOf q t s) ≡ here i (compoundAt q p)
-  pub compound : IsCompound (formulaAt q p)
-  pub stands : Stands q p
-
--- "the first formula with a connective, the left side before the right"
-abbrev pub Found : List ℕ → Running → Place → Type 0
-Found q s (At Left i p) = FoundAt q s Left i p
-Found q s (At Right i p) = (first (formulasOf q Left s) ≡ missing) × FoundAt q s Right i p
-Found q s Nowhere = (first (formulasOf q Left s) ≡ missing) × (first (formulasOf q Right s) ≡ missing)
 
 -- ---- reducing
 
@@ -78,16 +39,26 @@ insert Right i S P = record { on-left = S .on-left ++ P .on-left; on-right = spl
 abbrev pub premiseBy : Side → ℕ → Sequent → Compound → Placing → Sequent
 premiseBy t i S x p = insert t i S (mapSeq (part (x .f) (x .g)) (premiseOf p))
 
--- the rule of the compound at a position, and its parts
+-- where the second part of the compound at a position starts; NOT has its one part for both
+abbrev pub secondStart : Connective → List ℕ → ℕ → ℕ
+secondStart NOT q p = p + 1
+secondStart (two b) q p = endOf q (p + 1)
+
+-- the rule of the compound at a position, on a side, and where its parts start
+abbrev pub reductionAt : List ℕ → ℕ → Side → Reduction
+reductionAt q p t = record { rule = ruleOf (compoundAt q p .connective) t; f = p + 1; g = secondStart (compoundAt q p .connective) q p }
+
+-- r is that, and the parts stand there
 pub record Reduces (q : List ℕ) (p : ℕ) (t : Side) (r : Reduction) : Type 0 where
-  pub rows : premisesOf (r .rule) ≡ map sided (table (compoundAt q p .connective) t)
+  pub exact : r ≡ reductionAt q p t
   pub first-stands : Stands q (r .f)
   pub first : formulaAt q (r .f) ≡ compoundAt q p .f
   pub second-stands : Stands q (r .g)
   pub second : formulaAt q (r .g) ≡ compoundAt q p .g
 
--- a compound's second part stands at r
+-- a compound's second part starts at r and stands there
 pub record Second (q : List ℕ) (p r : ℕ) : Type 0 where
+  pub start : r ≡ secondStart (compoundAt q p .connective) q p
   pub well : Well q r
   pub stands : formulaAt q r ≡ compoundAt q p .g
 
@@ -97,8 +68,22 @@ countOne false = 0
 
 -- ---- loading a question
 
--- a side holds its first n formulas, and the other side what it held
-pub record Loaded (q : List ℕ) (t : Side) (n : ℕ) (s r : Running) : Type 0 where
+-- where formulas that stand one after the other from a position on start
+abbrev pub starts : ℕ → List Formula → List ℕ
+starts at [] = []
+starts at (x ∷ xs) = at ∷ starts (at + bytes x) xs
+
+-- where the formulas of a side start
+abbrev pub startsOn : Side → Sequent → List ℕ
+startsOn t S = starts (sideStart t S) (on-side t S)
+
+-- the positions of a question's formulas
+abbrev pub rootPlaces : Sequent → Seq ℕ
+rootPlaces S = record { on-left = startsOn Left S; on-right = startsOn Right S }
+
+-- a side holds its first n formulas, each where it starts, and the other side what it held
+pub record SideLoaded (q : List ℕ) (t : Side) (n : ℕ) (s r : Running) : Type 0 where
+  pub placed : view t r ≡ take n (startsOn t (question q))
   pub held : formulasOf q t r ≡ take n (on-side t (question q))
   pub aside : view (other t) r ≡ view (other t) s
   pub good : Good q r

@@ -22,7 +22,7 @@ sides Right s = omega arith
 abbrev pub withItems : List ℕ → Running → Running
 withItems new s = record { items = new; lefts = s .lefts; rights = s .rights; leftmask = s .leftmask; rightmask = s .rightmask }
 
--- new items, and a side's count and letters
+-- New items, with the count and the letters of a side, change that side alone.
 pub changed : (t : Side) (s : Running) (new xs : List ℕ) (n m : ℕ) → take n (lane t new) ≡ xs → n ≡ length xs
     → take (countOf (other t) s) (lane (other t) new) ≡ view (other t) s
     → Changed t xs m s (settled t n (bitOr (maskOf t (withItems new s)) m) (withItems new s))
@@ -84,7 +84,8 @@ module _ (t : Side) (s : Running) (size : length (s .items) ≡ ROOM) where
       Changed t (view t s ++ (x ∷ [])) m s (settled t (countOf t s + 1) (bitOr (maskOf t (withItems new s)) m) (withItems new s))
   append-one x m room =
       changed t s (set (s .items) (slotOf t (countOf t s)) x) (view t s ++ (x ∷ [])) (countOf t s + 1) m
-      (ap (take (countOf t s + 1)) (slot-set (s .items) size (countOf t s) (omega (arith, sides t s)) t x) ∙ end-one (lane t (s .items)) (countOf t s) x (omega (arith, sides t s, lane-length t (s .items))))
+      (ap (take (countOf t s + 1)) (slot-set (s .items) size (countOf t s) (omega (arith, sides t s)) t x)
+      ∙ end-one (lane t (s .items)) (countOf t s) x (omega (arith, sides t s, lane-length t (s .items))))
       (omega (arith, held-all (omega arith), length-append (view t s) (x ∷ [])))
       (slot-aside (s .items) size (countOf t s) (omega (arith, sides t s)) t x (countOf (other t) s) (omega (arith, sides t s)))
 

@@ -58,18 +58,18 @@ module _ (l : List ℕ) (h : length l ≡ ROOM) (i : ℕ) (k : i < ROOM) where
       let e : ROOM - 1 - (ROOM - 1 - i) ≡ i = omega arith in
       rw e at (rw h at (flip-set l (ROOM - 1 - i) x (omega arith)))
 
-  -- a store on one side, as the other sees it
+  -- A store on one side is, for the other side, a store counted from its lane's far end.
   pub slot-set-other : (s : Side) (x : ℕ) → lane (other s) (set l (slotOf s i) x) ≡ set (lane (other s) l) (ROOM - 1 - i) x
   slot-set-other Left x = rw h at (flip-set l i x (omega arith))
   slot-set-other Right x = refl
 
-  -- and leaves alone what is held there
+  -- A store on one side leaves alone what the other side holds.
   pub slot-aside : (s : Side) (x m : ℕ) → m + i < ROOM → take m (lane (other s) (set l (slotOf s i) x)) ≡ take m (lane (other s) l)
   slot-aside s x m r = rw (slot-set-other s x) (take-set-le m (lane (other s) l) (ROOM - 1 - i) x (omega arith))
 
 -- ---- lists
 
--- one more place of a part that is taken from a list
+-- A part that is taken from a list has at place i the element at i, and then its places from i + 1.
 pub opened : (l : List ℕ) (i n : ℕ) → i < n → n ≤ length l → drop i (take n l) ≡ getD l i 0 ∷ drop (i + 1) (take n l)
 opened l i n h k =
     rw (add-one i) (drop-cons (take n l) i 0 (omega (arith, length-take n l)) ∙ ap (λ (x : ℕ). x ∷ drop (suc i) (take n l)) (getD-take n l i 0 h))
@@ -77,14 +77,14 @@ opened l i n h k =
 drop-taken : (n : ℕ) (l : List ℕ) → drop n (take n l) ≡ []
 drop-taken n l = drop-of-length-le (take n l) {i = n} (omega (arith, length-take n l))
 
--- what agrees further agrees before
+-- Lists that agree on a longer part agree on a shorter one.
 shorter : (j i : ℕ) (l k : List ℕ) → j ≤ i → take i l ≡ take i k → take j l ≡ take j k
 shorter j i l k h e = sym (take-take j i l h) ∙ ap (take j) e ∙ take-take j i k h
 
 same-at : (j i : ℕ) (l k : List ℕ) → j < i → take i l ≡ take i k → getD l j 0 ≡ getD k j 0
 same-at j i l k h e = sym (getD-take i l j 0 h) ∙ ap (λ (w : List ℕ). getD w j 0) e ∙ getD-take i k j 0 h
 
--- a store before what is dropped of a part
+-- A store at a place that is dropped leaves the rest of the part as it was.
 drop-stored : (l : List ℕ) (i n x : ℕ) → i < n → drop (i + 1) (take n (set l i x)) ≡ drop (i + 1) (take n l)
 drop-stored l i n x h = rw (take-set-lt n l i x h) (drop-set-lt (i + 1) (take n l) i x (omega arith))
 
@@ -185,7 +185,9 @@ module _ (t : Side) (at n : ℕ) (room : n ≤ ROOM) (old : List ℕ) (size : le
         size = length-set new (slotOf t (i - 1)) _ ∙ o .size;
         low = omega (arith, o .low);
         high = omega arith;
-        front = rw (w, e) (take-suc-set L (i - 1) (getD L₀ i 0) (omega arith) ∙ ap (λ (l : List ℕ). l ++ (getD L₀ i 0 ∷ [])) (o .front) ∙ append-assoc (take at L₀) (drop (at + 1) (take i L₀)) (getD L₀ i 0 ∷ []) ∙ ap (λ (l : List ℕ). take at L₀ ++ l) (sym d));
+        front = rw (w, e)
+            (take-suc-set L (i - 1) (getD L₀ i 0) (omega arith) ∙ ap (λ (l : List ℕ). l ++ (getD L₀ i 0 ∷ [])) (o .front)
+            ∙ append-assoc (take at L₀) (drop (at + 1) (take i L₀)) (getD L₀ i 0 ∷ []) ∙ ap (λ (l : List ℕ). take at L₀ ++ l) (sym d));
         rest = rw w (drop-set-lt (i + 1) L (i - 1) (getD L₀ i 0) (omega arith) ∙ sym (drop-drop 1 i L) ∙ ap (drop 1) (o .rest) ∙ drop-drop 1 i L₀);
         aside = λ m r. slot-aside new (o .size) (i - 1) (omega arith) t _ m (omega (arith, o .low)) ∙ o .aside m r;
       }

@@ -4,3 +4,4 @@ pub mod Rows
 pub mod Changes
 pub mod Masks
 pub mod Premises
+pub mod Compounds

@@ -11,7 +11,7 @@ use lib.ListN.{getElem?}
 use Rattle.calculus.specs.Fold.{Monoid, fold}
 use Rattle.calculus.specs.Syntax.{Formula, letter, neg, join}
 use Rattle.calculus.specs.Table.{splice}
-use Rattle.calculus.specs.Tree.{letters, light, state}
+use Rattle.calculus.specs.Tree.{letters, state}
 use Rattle.calculus.proofs.Folds.{fold-append}
 use Rattle.calculus.proofs.Trees.{light-or}
 use Rattle.sequent.specs.View.{bitOf}
@@ -43,14 +43,14 @@ or-assoc a b c =
 abbrev pub OR : Monoid ℕ
 OR = record { op = bitOr; unit = 0; unit-left = or-zero-l; assoc = or-assoc; comm = or-comm }
 
--- a side's letters, as document 01's state has them, are the fold
+-- A side's letters, as document 01's state has them, are the fold of its formulas' bits.
 pub state-fold : (xs : List Formula) → state (letters xs) ≡ fold OR bitOf xs
 state-fold [] = refl
 state-fold (letter k ∷ xs) = sym (light-or k (state (letters xs))) ∙ ap (bitOr (2 ^ k)) (state-fold xs)
 state-fold (neg x ∷ xs) = state-fold xs ∙ sym (or-zero-l _)
 state-fold (join b x y ∷ xs) = state-fold xs ∙ sym (or-zero-l _)
 
--- a formula that measures nothing makes way for others
+-- A formula that measures nothing makes way for others, and the fold gains what they measure.
 pub fold-splice : {A X : Type 0} (M : Monoid A) (f : X → A) (xs : List X) (i : ℕ) (w : X) (new : List X) → getElem? xs i ≡ some w → f w ≡ M .unit
     → fold M f (splice i new xs) ≡ M .op (fold M f xs) (fold M f new)
 fold-splice M f [] i w new e u = absurd (Option·none-ne-some w e)

@@ -2,14 +2,14 @@
 -- Assumes nothing.
 use mathlib.Core.Path.{_≡_, refl, sym, ap, _∙_}
 use mathlib.Core.Bool.{Bool, true, false}
-use mathlib.Core.Option.{some, none}
+use mathlib.Core.Option.{some}
 use mathlib.Core.List.{List, [], _∷_, _++_, map, map-append}
 use Prim.Native.Nat.{ℕ, zero, suc, _+_, _*_, _%_, _^_, _≤_, _<_}
 use native.Mathlib.Nat.{one-mul, mod-eq-of-lt}
 use native.Mathlib.Omega.{arith}
 use lib.Bits.{bitOr, or-zero-r}
 use lib.Dec.{eqb}
-use lib.ListN.{length, take, getD, getElem?, length-append, length-take}
+use lib.ListN.{length, getD, getElem?, length-append, length-take}
 use lib.Pow.{pow-lt}
 use borrow.Author.Tests.{eq-eqb, ne-eqb}
 use Rattle.calculus.specs.declared.Side.{Side}
@@ -17,7 +17,6 @@ use Rattle.calculus.specs.declared.Side.the-variants.{Left, Right}
 use Rattle.calculus.specs.Fold.{fold, SUM, Each}
 use Rattle.calculus.specs.Limits.{ROOM, LETTERS}
 use Rattle.calculus.specs.Syntax.{other, Connective, NOT, two, Formula, letter, Compound, compound, whole, size}
-use Rattle.calculus.specs.Bytes.{LETTER}
 use Rattle.calculus.specs.Table.{L, R, on, splice, premise}
 use Rattle.calculus.specs.Tree.{letters, state}
 use Rattle.calculus.proofs.Folds.{each-append}
@@ -144,11 +143,15 @@ module _ (q : List ℕ) (s : Running) (good : Good q s) (items : length (s .item
   pub premise-size : (t : Side) (at : ℕ) → at < countOf t s
       → size (premise t at (places s) (placed p f g)) + 1 ≡ s .lefts + s .rights + length (partsOn t p f g) + length (partsOn (other t) p f g)
   premise-size Left at h =
-      rw (on-left (partsOn Left p f g) (partsOn Right p f g), on-right (partsOn Left p f g) (partsOn Right p f g), ones (splice at (partsOn Left p f g) (view Left s)), ones (view Right s ++ partsOn Right p f g))
-      (omega (arith, splice-length (view Left s) (partsOn Left p f g) at (omega (arith, held Left)), length-append (view Right s) (partsOn Right p f g), held Left, held Right))
+      let l = partsOn Left p f g in
+      let r = partsOn Right p f g in
+      rw (on-left l r, on-right l r, ones (splice at l (view Left s)), ones (view Right s ++ r))
+      (omega (arith, splice-length (view Left s) l at (omega (arith, held Left)), length-append (view Right s) r, held Left, held Right))
   premise-size Right at h =
-      rw (on-left (partsOn Left p f g) (partsOn Right p f g), on-right (partsOn Left p f g) (partsOn Right p f g), ones (splice at (partsOn Right p f g) (view Right s)), ones (view Left s ++ partsOn Left p f g))
-      (omega (arith, splice-length (view Right s) (partsOn Right p f g) at (omega (arith, held Right)), length-append (view Left s) (partsOn Left p f g), held Left, held Right))
+      let l = partsOn Left p f g in
+      let r = partsOn Right p f g in
+      rw (on-left l r, on-right l r, ones (splice at r (view Right s)), ones (view Left s ++ l))
+      (omega (arith, splice-length (view Right s) r at (omega (arith, held Right)), length-append (view Left s) l, held Left, held Right))
 
 pub both : (Q : Side → Type 0) (t : Side) → Q t → Q (other t) → (u : Side) → Q u
 both Q Left h k Left = h
@@ -174,6 +177,9 @@ places-premise s r p f g at Right h k = λ i. record {
 module _ (q : List ℕ) (s : Running) (good : Good q s) (items : length (s .items) ≡ ROOM) (p : Placing) (f g : ℕ) (hf : Stands q f) (hg : Stands q g)
     (t : Side) (at : ℕ) (due : Compounds q t at s) (room : size (premise t at (places s) (placed p f g)) ≤ ROOM)
     (k m : Parts) (sk : Sorted q (partsOn t p f g) k) (sm : Sorted q (partsOn (other t) p f g) m) where
+  count-at : (u : Side) → length (view u s) ≡ countOf u s
+  count-at = held q s good items p f g hf hg
+
   fits : s .lefts + s .rights + k .count + m .count ≤ ROOM + 1
   fits =
       omega (arith, premise-size q s good items p f g hf hg t at (due .inside), parts-count k (sk .few), ap length (sk .held), parts-count m (sm .few), ap length (sm .held))
@@ -184,7 +190,11 @@ module _ (q : List ℕ) (s : Running) (good : Good q s) (items : length (s .item
   module _ (r₁ : Running) (c₁ : Changed t (splice at (partsView k) (view t s)) (k .mask) s r₁) where
     pub append-fits : (r₁ .lefts + r₁ .rights + m .count ≤ ROOM) × (m .count ≤ 2) × (m .count ≡ 0 → m .mask ≡ 0)
     append-fits =
-        (omega (arith, fits, sides t r₁, sides t s, c₁ .counted, c₁ .aside-counted, splice-length (view t s) (partsView k) at (omega (arith, held q s good items p f g hf hg t, due .inside)), held q s good items p f g hf hg t, parts-count k (sk .few)), sm .few, parts-empty q (partsOn (other t) p f g) m sm)
+        let long = splice-length (view t s) (partsView k) at (omega (arith, count-at t, due .inside)) in (
+          omega (arith, fits, sides t r₁, sides t s, c₁ .counted, c₁ .aside-counted, long, count-at t, parts-count k (sk .few)),
+          sm .few,
+          parts-empty q (partsOn (other t) p f g) m sm,
+        )
 
     module _ (r : Running) (c₂ : Changed (other t) (view (other t) r₁ ++ partsView m) (m .mask) r₁ r) where
       place-view : view t r ≡ splice at (partsOn t p f g) (view t s)
@@ -198,8 +208,10 @@ module _ (q : List ℕ) (s : Running) (good : Good q s) (items : length (s .item
           let xs = map (formulaAt q) (view t s) in
           let new = map (formulaAt q) (partsOn t p f g) in
           let w = formulaAt q (getD (view t s) at 0) in
+          let here = element (formulaAt q) (view t s) at 0 (omega (arith, count-at t, due .inside)) in
+          let none = ap bitOf (due .compound .1) ∙ bit-whole (due .compound .0) in
           rw (other-other t) at (c₂ .aside-mask) ∙ c₁ .mask ∙ rw (good .masks t, sk .mask, state-fold xs, state-fold new)
-          (sym (fold-splice OR bitOf xs at w new (element (formulaAt q) (view t s) at 0 (omega (arith, held q s good items p f g hf hg t, due .inside))) (ap bitOf (due .compound .1) ∙ bit-whole (due .compound .0))))
+          (sym (fold-splice OR bitOf xs at w new here none))
           ∙ sym (state-fold (splice at new xs)) ∙ ap (λ (l : List Formula). state (letters l)) (sym (map-splice (formulaAt q) at (partsOn t p f g) (view t s)))
           ∙ ap (λ (l : List ℕ). state (letters (map (formulaAt q) l))) (sym place-view)
 
@@ -212,17 +224,20 @@ module _ (q : List ℕ) (s : Running) (good : Good q s) (items : length (s .item
           ∙ ap (λ (l : List ℕ). state (letters (map (formulaAt q) l))) (sym end-view)
 
       pub premise-made : (places r ≡ premise t at (places s) (placed p f g)) × Good q r
-      premise-made = (
-        places-premise s r p f g at t place-view end-view,
-        record {
-          short = good .short;
-          room = omega (arith, append-fits, sides t r, sides t r₁, c₂ .counted, rw (other-other t) at (c₂ .aside-counted), length-append (view (other t) r₁) (partsView m), parts-count m (sm .few), c₁ .aside-counted, ap length (c₁ .aside), held q s good items p f g hf hg (other t));
-          stand = both (λ u. Each (Stands q) (view u r)) t
-              (rw place-view (each-splice (Stands q) at (partsOn t p f g) (view t s) (each-parts (Stands q) t p f g hf hg) (good .stand t)))
-              (rw end-view (each-append (Stands q) (view (other t) s) (partsOn (other t) p f g) (good .stand (other t)) (each-parts (Stands q) (other t) p f g hf hg)));
-          masks = both (λ u. maskOf u r ≡ state (letters (formulasOf q u r))) t place-mask end-mask;
-        },
-      )
+      premise-made =
+          let back = rw (other-other t) at (c₂ .aside-counted) in
+          let long = length-append (view (other t) r₁) (partsView m) in
+          let few = parts-count m (sm .few) in (
+            places-premise s r p f g at t place-view end-view,
+            record {
+              short = good .short;
+              room = omega (arith, append-fits, sides t r, sides t r₁, c₂ .counted, back, long, few, c₁ .aside-counted, ap length (c₁ .aside), count-at (other t));
+              stand = both (λ u. Each (Stands q) (view u r)) t
+                  (rw place-view (each-splice (Stands q) at (partsOn t p f g) (view t s) (each-parts (Stands q) t p f g hf hg) (good .stand t)))
+                  (rw end-view (each-append (Stands q) (view (other t) s) (partsOn (other t) p f g) (good .stand (other t)) (each-parts (Stands q) (other t) p f g hf hg)));
+              masks = both (λ u. maskOf u r ≡ state (letters (formulasOf q u r))) t place-mask end-mask;
+            },
+          )
 
 -- ---- one formula more
 

@@ -1,9 +1,13 @@
 -- The ten rows of the table, one by one.
 -- Assumes nothing.
-use mathlib.Core.Path.{_≡_, refl}
+use mathlib.Core.Path.{_≡_, refl, ap, _∙_}
+use mathlib.Core.List.{map}
 use Rattle.calculus.specs.declared.Side.{Side}
 use Rattle.calculus.specs.declared.Side.the-variants.{Left, Right}
 use Rattle.calculus.specs.Syntax.{AND, OR, IMPLIES, EQUIV, Connective, NOT, two}
+use Rattle.calculus.specs.Table.{table}
+use Rattle.sequent.specs.declared.Rule.{Rule}
+use Rattle.sequent.specs.Rule.{ruleOf, premisesOf, sided}
 
 pub ten : {Q : Type 0} (k : Connective) (s : Side)
     → (k ≡ NOT → s ≡ Left → Q) → (k ≡ NOT → s ≡ Right → Q) → (k ≡ two AND → s ≡ Left → Q) → (k ≡ two AND → s ≡ Right → Q)
@@ -19,3 +23,21 @@ ten (two IMPLIES) Left a b c d e f g h i j = g refl refl
 ten (two IMPLIES) Right a b c d e f g h i j = h refl refl
 ten (two EQUIV) Left a b c d e f g h i j = i refl refl
 ten (two EQUIV) Right a b c d e f g h i j = j refl refl
+
+-- The rule of a connective on a side says what its row says.
+rule-row : (k : Connective) (s : Side) → premisesOf (ruleOf k s) ≡ map sided (table k s)
+rule-row k s =
+    ten k s
+    (λ h d. rw (h, d))
+    (λ h d. rw (h, d))
+    (λ h d. rw (h, d))
+    (λ h d. rw (h, d))
+    (λ h d. rw (h, d))
+    (λ h d. rw (h, d))
+    (λ h d. rw (h, d))
+    (λ h d. rw (h, d))
+    (λ h d. rw (h, d))
+    (λ h d. rw (h, d))
+
+pub rows-of : (k : Connective) (s : Side) (r : Rule) → r ≡ ruleOf k s → premisesOf r ≡ map sided (table k s)
+rows-of k s r e = ap premisesOf e ∙ rule-row k s

@@ -3,11 +3,12 @@ use mathlib.Core.Bool.{Bool, true, false}
 use mathlib.Core.List.{List, [], _∷_, _++_, map}
 use Prim.Native.Nat.{ℕ}
 use lib.Dec.{eqb}
+use lib.ListN.{length, getD}
 use Rattle.calculus.specs.declared.Side.{Side}
 use Rattle.calculus.specs.declared.Side.the-variants.{Left, Right}
 use Rattle.calculus.specs.Fold.{choose}
-use Rattle.calculus.specs.Syntax.{Seq}
-use Rattle.calculus.specs.Table.{Part, F, G, Put, L, R, on}
+use Rattle.calculus.specs.Syntax.{Connective, Seq}
+use Rattle.calculus.specs.Table.{Part, F, G, Put, L, R, table, on}
 use Rattle.sequent.specs.declared.Placing.{Placing}
 use Rattle.sequent.specs.declared.Rule.{Rule}
 
@@ -15,6 +16,29 @@ use Rattle.sequent.specs.declared.Rule.{Rule}
 abbrev pub sideCode : Side → ℕ
 sideCode Left = 1
 sideCode Right = 2
+
+-- where a part goes in a premise: the number of its side
+abbrev pub goes : Part → List (Put Part) → ℕ
+goes x [] = 0
+goes F (L F ∷ ps) = sideCode Left
+goes F (R F ∷ ps) = sideCode Right
+goes F (L G ∷ ps) = goes F ps
+goes F (R G ∷ ps) = goes F ps
+goes G (L F ∷ ps) = goes G ps
+goes G (R F ∷ ps) = goes G ps
+goes G (L G ∷ ps) = sideCode Left
+goes G (R G ∷ ps) = sideCode Right
+
+abbrev pub placing : List (Put Part) → Placing
+placing ps = record { f = goes F ps; g = goes G ps }
+
+-- the rule of a row of document 01's table: how many premises, and where the parts go in the first and in the second; nowhere
+-- in a second one that is not there
+abbrev pub ruleBy : List (List (Put Part)) → Rule
+ruleBy rows = record { premises = length rows; first = placing (getD rows 0 []); second = placing (getD rows 1 []) }
+
+abbrev pub ruleOf : Connective → Side → Rule
+ruleOf k s = ruleBy (table k s)
 
 abbrev pub keep : {X : Type 0} → Bool → X → List X
 keep true x = x ∷ []

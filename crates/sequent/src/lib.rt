@@ -1,21 +1,24 @@
 // The running sequent and its reductions.
 use calculus::Side;
+use calculus::wide;
 ghost use mathlib.Core.Path.{_≡_};
 ghost use mathlib.Core.List.{[], _++_, map};
-ghost use Prim.Native.Nat.{ℕ, _+_, _-_, _%_, _^_, _≤_, _<_};
+ghost use Prim.Native.Nat.{_+_, _-_, _%_, _≤_, _<_};
 ghost use lib.Bits.{bitOr};
-ghost use lib.ListN.{length, take, drop, set, getD};
-ghost use Rattle.calculus.specs.Limits.{ROOM, LONGEST, LETTERS};
+ghost use lib.ListN.{length, take};
+ghost use Rattle.calculus.specs.Fold.{Each};
+ghost use Rattle.calculus.specs.Limits.{ROOM};
 ghost use Rattle.calculus.specs.Syntax.{Connective, other, size};
 ghost use Rattle.calculus.specs.Bytes.{CONNECTIVE, code};
-ghost use Rattle.calculus.specs.Table.{table, splice, premise};
-ghost use Rattle.question.specs.Positions.{Well, formulaAt};
-ghost use Rattle.sequent.specs.View.{slotOf, countOf, maskOf, view, settled, partsView, Stands, Opened, Shut};
+ghost use Rattle.calculus.specs.Table.{splice, premise};
+ghost use Rattle.question.specs.Positions.{formulaAt};
+ghost use Rattle.sequent.specs.View.{lane, slotOf, countOf, maskOf, view, settled, partsView, Stands, Opened, Shut};
 ghost use Rattle.sequent.specs.View.{Changed, bitOf, Sorted, Good, Compounds, Pushed, places};
-ghost use Rattle.sequent.specs.Rule.{sideCode, partsOn, premisesOf, sided, placed};
+ghost use Rattle.sequent.specs.Compounds.{firstIn, Found};
+ghost use Rattle.sequent.specs.Rule.{sideCode, ruleOf, partsOn, placed};
 
 // Formulas by their positions in the question's bytes: the left side from the front of `items`, the right side from the
-// back; and the letters of each side, a bit each.
+// back, and what lies between is free, since nothing reads it; and the letters of each side, a bit each.
 pub struct Running {
     pub items: [u8; 80],
     pub lefts: usize,
@@ -24,7 +27,7 @@ pub struct Running {
     pub rightmask: u32,
 }
 
-// At most two formulas, and their letters.
+// At most two formulas, and their letters. A place that the count does not reach is free: nothing reads it.
 pub struct Parts {
     pub count: usize,
     pub first: u8,
@@ -42,6 +45,12 @@ pub struct Rule {
     pub premises: u8,
     pub first: Placing,
     pub second: Placing,
+}
+
+// A place of a side, and the position of the formula there.
+pub enum Place {
+    At(Side, usize, u8),
+    Nowhere,
 }
 
 // The formulas that a running sequent holds at most.
@@ -84,7 +93,7 @@ fn digit(n: u32) -> u8
 // The rule of the connective whose command is b, on a side.
 pub fn rule_of(b: u8, side: Side) -> Rule
     requires { ⌜ (2 ≤ b) × (b ≤ 6) ⌝ }
-    ensures { λ r. ⌜ ((k : Connective) → code (CONNECTIVE k) ≡ b → premisesOf r ≡ map sided (table k side)) ⌝ }
+    ensures { λ r. ⌜ ((k : Connective) → code (CONNECTIVE k) ≡ b → r ≡ ruleOf k side) ⌝ }
 {
     let i = ((b - 2) * 2 + (side_code(side) - 1)) as usize;
     let row = RULES[i];
@@ -124,7 +133,7 @@ fn open_gap(items: &mut [u8; 80], side: Side, at: usize, n: usize)
     }
 }
 
-// They move down by one, over the one at the place.
+// The formulas after a place of a side that holds n move down by one, over the one at the place.
 fn close_gap(items: &mut [u8; 80], side: Side, at: usize, n: usize)
     requires { ⌜ (at < n) × (n ≤ ROOM) × (length (now items) ≡ ROOM) ⌝ }
     ensures { λ _. ⌜ Shut side at n (now (items .entry)) (now (items .exit)) ⌝ }
@@ -244,12 +253,6 @@ fn letter_bit(q: &[u8], p: u8) -> u32
     0
 }
 
-fn wide(p: u8) -> usize
-    ensures { λ r. ⌜ r ≡ p ⌝ }
-{
-    p as usize
-}
-
 // The parts f and g that a premise puts on a side.
 fn parts_on(q: &[u8], side: Side, p: Placing, f: u8, g: u8) -> Parts
     requires { ⌜ Stands (now q) f × Stands (now q) g ⌝ }
@@ -322,5 +325,41 @@ impl Running {
                 mask: mask,
             },
         )
+    }
+}
+
+// The place of the first compound among the n formulas of a side, or n.
+fn first_on(q: &[u8], items: &[u8; 80], side: Side, n: usize) -> usize
+    requires { ⌜ (n ≤ ROOM) × (length (now items) ≡ ROOM) × Each (Stands (now q)) (take n (lane side (now items))) ⌝ }
+    ensures { λ r. ⌜ r ≡ firstIn (map (formulaAt (now (q .entry))) (take n (lane side (now (items .entry))))) ⌝ }
+{
+    let mut i = 0;
+    while i < n {
+        let p = wide(items[slot(side, i)]);
+        if q[p] != 1 {
+            return i;
+        }
+        i += 1;
+    }
+    n
+}
+
+impl Running {
+    // The first formula with a connective, the left side before the right.
+    pub fn first_compound(self, q: &[u8]) -> Place
+        requires { ⌜ Good (now q) self ⌝ }
+        ensures { λ r. ⌜ Found (now (q .entry)) self r ⌝ }
+    {
+        let n = self.lefts;
+        let i = first_on(q, &self.items, Side::Left, n);
+        if i < n {
+            return Place::At(Side::Left, i, self.items[i]);
+        }
+        let m = self.rights;
+        let j = first_on(q, &self.items, Side::Right, m);
+        if j < m {
+            return Place::At(Side::Right, j, self.items[79 - j]);
+        }
+        Place::Nowhere
     }
 }

@@ -22,8 +22,7 @@ use Rattle.question.specs.declared.Refusal.{Refusal}
 use Rattle.question.specs.Answers.{numberOf, placeOf}
 use Rattle.question.proofs.Questions.{side-formulas}
 use Rattle.width.specs.declared.Product.{Product}
-use Rattle.width.specs.declared.Answer.{Answer}
-use Rattle.width.specs.declared.Answer.the-variants.{Refused, Of}
+use Rattle.width.specs.declared.Measure.the-variants.{Refused, Of}
 use Rattle.width.specs.Walks.{productOf}
 use Rattle.width.specs.Answers.{widthOf, Sized}
 

@@ -7,10 +7,10 @@ use Rattle.calculus.specs.Bytes.{question}
 use Rattle.calculus.specs.Width.{W}
 use Rattle.calculus.specs.Reply.{Reply}
 use Rattle.question.specs.Answers.{numberOf, placeOf}
-use Rattle.width.specs.declared.Answer.{Answer}
-use Rattle.width.specs.declared.Answer.the-variants.{Refused, Of}
+use Rattle.width.specs.declared.Measure.{Measure}
+use Rattle.width.specs.declared.Measure.the-variants.{Refused, Of}
 
-abbrev pub widthOf : Answer → Reply
+abbrev pub widthOf : Measure → Reply
 widthOf (Refused r) = record { number = numberOf r; values = placeOf r ∷ [] }
 widthOf (Of w n) = record { number = 0; values = w ∷ n ∷ [] }
 

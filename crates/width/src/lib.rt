@@ -32,7 +32,7 @@ impl Pair {
     }
 }
 
-// They, with the formula's connectives and the position behind it.
+// A formula's pair of widths, with its connectives and the position behind it.
 pub struct Walk {
     pub pair: Pair,
     pub connectives: u64,
@@ -148,24 +148,24 @@ fn side_product(q: &[u8], side: Side, start: usize) -> Product
 }
 
 // What the width call answers: W and c.
-pub enum Answer {
+pub enum Measure {
     Refused(Refusal),
     Of(u64, u64),
 }
 
 // The width of a question. The right side starts two bytes behind the left side's formulas.
-pub fn width(q: &[u8]) -> Answer
+pub fn width(q: &[u8]) -> Measure
     ensures reply { λ r. ⌜ widthOf r ≡ widthReply (now (q .entry)) ⌝ }
-    ensures sized { λ r. ⌜ ((w n : ℕ) → r ≡ Answer.Of w n → Sized (now (q .entry)) w n) ⌝ }
+    ensures sized { λ r. ⌜ ((w n : ℕ) → r ≡ Measure.Of w n → Sized (now (q .entry)) w n) ⌝ }
 {
     let reading = question::read(q);
     match reading {
-        Reading::Refused(r) => Answer::Refused(r),
+        Reading::Refused(r) => Measure::Refused(r),
         Reading::Accepted => {
             let start = question::side_start(q, Side::Left);
             let left = side_product(q, Side::Left, start);
             let right = side_product(q, Side::Right, left.end + 2);
-            Answer::Of(
+            Measure::Of(
                 left.width * right.width,
                 left.connectives + right.connectives,
             )

@@ -32,8 +32,8 @@ use Rattle.calculus.proofs.Budgets.{spent-verdict, whole-verdict}
 use Rattle.calculus.proofs.Derivations.{derivation-length, derivation-passes}
 use Rattle.question.specs.Answers.{numberOf, placeOf}
 use Rattle.question.specs.declared.Refusal.{Refusal}
-use Rattle.writer.specs.declared.Answer.{Answer}
-use Rattle.writer.specs.declared.Answer.the-variants.{Refused, NotProved, NoSpace, Written}
+use Rattle.writer.specs.declared.Writing.{Writing}
+use Rattle.writer.specs.declared.Writing.the-variants.{Refused, NotProved, NoSpace, Written}
 use Rattle.writer.specs.Answers.{answerOf, laid, IsTheorem, WrittenOut, Evidence}
 
 laid-start : (l xs : List ℕ) → laid l 0 xs ≡ xs ++ drop (length xs) l
@@ -98,8 +98,8 @@ is-theorem b S v e h = go (decLt b (reductions (tree S .events)))
         let p : tree S .end ≡ Theorem = ap (λ (u : Verdict). u .kind) (sym w) ∙ h in
         record { proved = p; counts = w ∙ ap (λ (k : Kind). record { kind = k; reductions = reductions (tree S .events); closings = closings (tree S .events) }) p }
 
--- what the contract says of an answer
-abbrev pub Answers : List ℕ → ℕ → List ℕ → List ℕ → Answer → Type 0
+-- `Answers` is what the contract says of an answer.
+abbrev pub Answers : List ℕ → ℕ → List ℕ → List ℕ → Writing → Type 0
 Answers q b old new r =
     (answerOf r ≡ derive q b old .reply) × (new ≡ derive q b old .buffer) × ((n : ℕ) (v : Verdict) → r ≡ Written n v → (v .kind ≡ Theorem) × Evidence q (take n new))
 
@@ -110,19 +110,28 @@ module _ (q : List ℕ) (b : ℕ) (a : reading q ≡ accepted) (v : Verdict) (e 
   out : (old : List ℕ) → derive q b old ≡ writeOut (v .kind) (v .reductions) (v .closings) (derivation (question q)) old
   out old = rw (a, e)
 
-  pub theorem-answers : (old new : List ℕ) (r : Answer) → v .kind ≡ Theorem → WrittenOut (question q) v old new r → Answers q b old new r
+  pub theorem-answers : (old new : List ℕ) (r : Writing) → v .kind ≡ Theorem → WrittenOut (question q) v old new r → Answers q b old new r
   theorem-answers old new r k w =
-      let o : derive q b old ≡ writeOut Theorem (v .reductions) (v .closings) (derivation (question q)) old = out old ∙ ap (λ (x : Kind). writeOut x (v .reductions) (v .closings) (derivation (question q)) old) k in
+      let o : derive q b old ≡ writeOut Theorem (v .reductions) (v .closings) (derivation (question q)) old
+      = out old ∙ ap (λ (x : Kind). writeOut x (v .reductions) (v .closings) (derivation (question q)) old) k in
       let p = is-theorem b (question q) v e k .proved in (
         w .reply ∙ ap (λ (x : Wrote). x .reply) (sym o),
         w .buffer ∙ ap (λ (x : Wrote). x .buffer) (sym o),
-        λ n u d. (ap (λ (x : Verdict). x .kind) (w .taken n u d .0) ∙ k, record { read = a; valid = theorem-true (question q) p; checks = ap (checking (question q)) (w .taken n u d .1) ∙ derivation-passes (question q) p }),
+        λ n u d. (
+          ap (λ (x : Verdict). x .kind) (w .taken n u d .0) ∙ k,
+          record { read = a; valid = theorem-true (question q) p; checks = ap (checking (question q)) (w .taken n u d .1) ∙ derivation-passes (question q) p },
+        ),
       )
 
   pub other-answers : (old : List ℕ) → OneOf (1 ∷ 2 ∷ 3 ∷ []) (tagOf the-type (v .kind)) → Answers q b old old (NotProved v)
-  other-answers old k = (reply (v .kind) k ∙ ap (λ (x : Wrote). x .reply) (sym (out old)), buffer (v .kind) k ∙ ap (λ (x : Wrote). x .buffer) (sym (out old)), λ n u d. let z : _≡_ {A = ℕ} 0 1 = cc in absurd (omega arith))
+  other-answers old k = (
+    reply (v .kind) k ∙ ap (λ (x : Wrote). x .reply) (sym (out old)),
+    buffer (v .kind) k ∙ ap (λ (x : Wrote). x .buffer) (sym (out old)),
+    λ n u d. let z : _≡_ {A = ℕ} 0 1 = cc in absurd (omega arith),
+  )
     where
-      reply : (x : Kind) → OneOf (1 ∷ 2 ∷ 3 ∷ []) (tagOf the-type x) → answerOf (NotProved (record { kind = x; reductions = v .reductions; closings = v .closings })) ≡ writeOut x (v .reductions) (v .closings) (derivation (question q)) old .reply
+      reply : (x : Kind) → OneOf (1 ∷ 2 ∷ 3 ∷ []) (tagOf the-type x)
+          → answerOf (NotProved (record { kind = x; reductions = v .reductions; closings = v .closings })) ≡ writeOut x (v .reductions) (v .closings) (derivation (question q)) old .reply
       reply Theorem o = absurd (miss (1 ∷ 2 ∷ 3 ∷ []) 0 tt o)
       reply (Refuted σ) o = refl
       reply Spent o = refl

@@ -2,10 +2,10 @@
 -- Assumes nothing.
 use mathlib.Core.Path.{_≡_, refl, sym, ap, _∙_, subst}
 use mathlib.Core.List.{List, [], _∷_, _++_, append-assoc, append-nil}
-use Prim.Native.Nat.{ℕ, suc, _+_, _-_, _^_, _≤_, _<_}
+use Prim.Native.Nat.{ℕ, suc, _+_, _^_, _≤_, _<_}
 use native.Mathlib.Numerals.{add-one}
 use native.Mathlib.Omega.{arith}
-use lib.ListN.{length, take, drop, set, length-append, length-take, length-drop, length-set}
+use lib.ListN.{length, take, drop, set, length-append, length-take, length-set}
 use lib.Seq.{take-at, drop-drop, set-split, take-suc-set, drop-set-lt, drop-append-add}
 use Rattle.calculus.specs.declared.Side.{Side}
 use Rattle.calculus.specs.declared.Kind.{Kind}
@@ -13,30 +13,26 @@ use Rattle.calculus.specs.declared.Kind.the-variants.{Theorem, Refuted, Spent, 
 use Rattle.calculus.specs.Limits.{LETTERS, ROOM}
 use Rattle.calculus.specs.Syntax.{Compound, Sequent}
 use Rattle.calculus.specs.Table.{premises}
-use Rattle.calculus.specs.Tree.{letters, state, Step, closed, opened, full, reduced, step, Event, close, reduce, Tree, follow, chain, under, grow, tree, Inner, isClosed, isOpen, isFull, isSpent, isDue, afford, inner}
-use Rattle.calculus.specs.Derivation.{CLOSE, REDUCE, orderCode, written, writtenAll, derivation}
+use Rattle.calculus.specs.Tree.{letters, state, Step, closed, opened, full, reduced, step, Event, reduce, Tree, follow, chain, under, grow, tree, Inner, isClosed, isOpen, isFull, isSpent, isDue, afford, inner}
+use Rattle.calculus.specs.Derivation.{CLOSE, REDUCE, orderCode, writtenAll, derivation}
 use Rattle.calculus.proofs.Derivations.{writtenAll-append}
 use Rattle.calculus.proofs.Trees.{tree-grows, right-step, bit-state}
 use Rattle.prover.proofs.Closings.{bit-below}
 use Rattle.sequent.specs.declared.Running.{Running}
 use Rattle.sequent.specs.View.{lane, countOf}
 use Rattle.sequent.proofs.Lanes.{lane-length}
-use Rattle.reduction.specs.Reduction.{FoundAt}
-use Rattle.prover.specs.declared.Due.{Due}
-use Rattle.prover.specs.declared.Due.the-variants.{Closed, Open, Full as FullDue, Spent as SpentDue, Reduce}
+use Rattle.sequent.specs.Compounds.{FoundAt}
+use Rattle.prover.specs.declared.Finding.{Finding}
+use Rattle.prover.specs.declared.Finding.the-variants.{Closed, Open, Full as FullFound, Spent as SpentFound, Reduce}
 use Rattle.prover.specs.Inner.{innerOf}
-use Rattle.prover.proofs.Due.{the-type}
+use Rattle.prover.proofs.Finding.{the-type}
 use denote.Enum.Declared.{tagOf}
 use types.Run.{OneOf, miss}
 use Rattle.writer.specs.Answers.{laid}
 
 -- ---- laying bytes
 
-pub laid-length : (l : List ℕ) (at : ℕ) (xs : List ℕ) → at + length xs ≤ length l → length (laid l at xs) ≡ length l
-laid-length l at xs h =
-    omega (arith, length-append (take at l) (xs ++ drop (at + length xs) l), length-append xs (drop (at + length xs) l), length-take at l, length-drop (at + length xs) l)
-
--- one part after the other
+-- Bytes laid one part after the other are laid as one.
 pub laid-laid : (l : List ℕ) (at : ℕ) (xs ys : List ℕ) → at + length xs + length ys ≤ length l → laid (laid l at xs) (at + length xs) ys ≡ laid l at (xs ++ ys)
 laid-laid l at xs ys h =
     let n : length (take at l) ≡ at = omega (arith, length-take at l) in
@@ -78,13 +74,13 @@ due-step (reduced u j y) s i x e = cc
 pub derivation-closed : (S : Sequent) (k : ℕ) → isClosed k ≡ inner 1 S → derivation S ≡ orderCode CLOSE ∷ k ∷ []
 derivation-closed S k e = ap (λ (t : Tree). writtenAll (t .events)) (tree-grows S ∙ ap (grow tree S) (closed-step (step S) k (sym e)))
 
--- the letter is one of the limit's
+-- The letter that closes a sequent is within the limit.
 pub closed-small : (S : Sequent) (k : ℕ) → isClosed k ≡ inner 1 S → state (letters (S .on-left)) < 2 ^ LETTERS → k < LETTERS
 closed-small S k e h =
     let r = rw (closed-step (step S) k (sym e)) at (right-step S) in
     bit-below LETTERS k (state (letters (S .on-left))) h (bit-state k (letters (S .on-left)) ∙ r .0)
 
--- an open sequent, or a full one, is no theorem
+-- An open sequent, or a full one, is no theorem.
 abbrev pub Goes : Inner → Type 0
 Goes (isClosed k) = Unit {0}
 Goes (isOpen σ) = ⊥
@@ -110,7 +106,7 @@ follow-theorem es (Refuted σ) u h = let z : _≡_ {A = ℕ} 0 1 = cc in absurd 
 follow-theorem es Spent u h = let z : _≡_ {A = ℕ} 0 1 = cc in absurd (omega arith)
 follow-theorem es Full u h = let z : _≡_ {A = ℕ} 0 1 = cc in absurd (omega arith)
 
--- one premise, or two
+-- A theorem that is reduced has theorems for premises, one or two, and its derivation is the command and theirs.
 module _ (S : Sequent) (s : Side) (i : ℕ) (x : Compound) (due : isDue s i x ≡ inner 1 S) (h : tree S .end ≡ Theorem) where
   ends : chain tree (premises s i x S) .end ≡ Theorem
   ends = ap (λ (t : Tree). t .end) (sym (reduced-tree S s i x due)) ∙ h
@@ -118,13 +114,15 @@ module _ (S : Sequent) (s : Side) (i : ℕ) (x : Compound) (due : isDue s i x �
   bytes : derivation S ≡ orderCode (REDUCE s (x .connective)) ∷ i ∷ writtenAll (chain tree (premises s i x S) .events)
   bytes = ap (λ (t : Tree). writtenAll (t .events)) (reduced-tree S s i x due)
 
-  -- the first premise, whatever follows
+  -- The first premise is a theorem, whatever follows it, and its derivation is shorter by two bytes or more.
   pub derivation-first : (P : Sequent) (Ps : List Sequent) → premises s i x S ≡ P ∷ Ps → (tree P .end ≡ Theorem) × (2 + length (derivation P) ≤ length (derivation S))
   derivation-first P Ps e =
       let f = follow-theorem (tree P .events) (tree P .end) (chain tree Ps) (rw e at ends) in
       let g : length (derivation S) ≡ 2 + length (writtenAll (follow (tree P .events) (tree P .end) (chain tree Ps) .events))
       = ap length (bytes ∙ ap (λ Qs. orderCode (REDUCE s (x .connective)) ∷ i ∷ writtenAll (chain tree Qs .events)) e) ∙ (omega arith) in
-      (f .0, omega (arith, g, ap (λ es. length (writtenAll es)) (f .2), ap length (writtenAll-append (tree P .events) (chain tree Ps .events)), length-append (writtenAll (tree P .events)) (writtenAll (chain tree Ps .events))))
+      let split = ap length (writtenAll-append (tree P .events) (chain tree Ps .events)) in
+      let sum = length-append (writtenAll (tree P .events)) (writtenAll (chain tree Ps .events)) in
+      (f .0, omega (arith, g, ap (λ es. length (writtenAll es)) (f .2), split, sum))
 
   pub due-length : 2 ≤ length (derivation S)
   due-length = omega (arith, ap length bytes)
@@ -163,14 +161,14 @@ laid-both l at a b ds es all e h =
     two : (n : ℕ) (xs : List ℕ) → n + 2 + length xs ≡ n + length (a ∷ b ∷ xs)
     two n xs = omega arith
 
--- the same, by what each of the writes left
+-- What each of the writes left comes to the whole derivation laid at once.
 pub laid-after : (l l1 last : List ℕ) (at r1 a b : ℕ) (ds ds1 all : List ℕ) → last ≡ laid l1 r1 ds → r1 ≡ at + 2 → l1 ≡ laid l at (a ∷ b ∷ []) → ds ≡ ds1
     → all ≡ a ∷ b ∷ ds1 → at + length all ≤ length l → last ≡ laid l at all
 laid-after l l1 last at r1 a b ds ds1 all w r o d e h =
     w ∙ ap (λ (k : ℕ). laid l1 k ds) r ∙ ap (λ (m : List ℕ). laid m (at + 2) ds) o ∙ ap (λ (k : List ℕ). laid (laid l at (a ∷ b ∷ [])) (at + 2) k) d ∙ laid-one l at a b ds1 all e h
 
-pub laid-after-both : (l l1 l2 last : List ℕ) (at r1 r2 a b : ℕ) (ds ds1 es es1 all : List ℕ) → last ≡ laid l2 r2 es → r2 ≡ r1 + length ds → l2 ≡ laid l1 r1 ds → r1 ≡ at + 2 → l1 ≡ laid l at (a ∷ b ∷ [])
-    → ds ≡ ds1 → es ≡ es1 → all ≡ a ∷ b ∷ (ds1 ++ es1) → at + length all ≤ length l → last ≡ laid l at all
+pub laid-after-both : (l l1 l2 last : List ℕ) (at r1 r2 a b : ℕ) (ds ds1 es es1 all : List ℕ) → last ≡ laid l2 r2 es → r2 ≡ r1 + length ds
+    → l2 ≡ laid l1 r1 ds → r1 ≡ at + 2 → l1 ≡ laid l at (a ∷ b ∷ []) → ds ≡ ds1 → es ≡ es1 → all ≡ a ∷ b ∷ (ds1 ++ es1) → at + length all ≤ length l → last ≡ laid l at all
 laid-after-both l l1 l2 last at r1 r2 a b ds ds1 es es1 all w r2e o2 r1e o1 d g e h =
     let first : l2 ≡ laid (laid l at (a ∷ b ∷ [])) (at + 2) ds1
     = o2 ∙ ap (λ (k : ℕ). laid l1 k ds) r1e ∙ ap (λ (m : List ℕ). laid m (at + 2) ds) o1 ∙ ap (λ (k : List ℕ). laid (laid l at (a ∷ b ∷ [])) (at + 2) k) d in
@@ -178,15 +176,15 @@ laid-after-both l l1 l2 last at r1 r2 a b ds ds1 es es1 all w r2e o2 r1e o1 d g 
     w ∙ ap (λ (k : ℕ). laid l2 k es) place ∙ ap (λ (m : List ℕ). laid m (at + 2 + length ds1) es) first
     ∙ ap (λ (k : List ℕ). laid (laid (laid l at (a ∷ b ∷ [])) (at + 2) ds1) (at + 2 + length ds1) k) g ∙ laid-both l at a b ds1 es1 all e h
 
--- a theorem's step is closed or reduced
-pub no-other : {Q : Type 0} (q : List ℕ) (S : Sequent) (r : Due) → innerOf q r ≡ inner 1 S → tree S .end ≡ Theorem → OneOf (1 ∷ 2 ∷ 3 ∷ []) (tagOf the-type r) → Q
+-- A theorem's step is closed or reduced.
+pub no-other : {Q : Type 0} (q : List ℕ) (S : Sequent) (r : Finding) → innerOf q r ≡ inner 1 S → tree S .end ≡ Theorem → OneOf (1 ∷ 2 ∷ 3 ∷ []) (tagOf the-type r) → Q
 no-other {Q} q S r e h k = go r (subst Goes (sym e) (theorem-goes S h)) k
   where
-    go : (r : Due) → Goes (innerOf q r) → OneOf (1 ∷ 2 ∷ 3 ∷ []) (tagOf the-type r) → Q
+    go : (r : Finding) → Goes (innerOf q r) → OneOf (1 ∷ 2 ∷ 3 ∷ []) (tagOf the-type r) → Q
     go (Closed j) g k = absurd (miss (1 ∷ 2 ∷ 3 ∷ []) 0 tt k)
     go (Open σ) g k = absurd g
-    go FullDue g k = absurd g
-    go SpentDue g k = absurd g
+    go FullFound g k = absurd g
+    go SpentFound g k = absurd g
     go (Reduce u i p) g k = absurd (miss (1 ∷ 2 ∷ 3 ∷ []) 4 tt k)
 
 pub place-small : (q : List ℕ) (s : Running) (t : Side) (i p : ℕ) → length (s .items) ≡ ROOM → FoundAt q s t i p → i < ROOM

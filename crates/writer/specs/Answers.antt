@@ -15,8 +15,8 @@ use Rattle.calculus.specs.Derivation.{derivation, passes, checking}
 use Rattle.calculus.specs.Syntax.{Sequent}
 use Rattle.calculus.specs.Reply.{Reply, verdictReply, writeOut}
 use Rattle.question.specs.Answers.{numberOf, placeOf}
-use Rattle.writer.specs.declared.Answer.{Answer}
-use Rattle.writer.specs.declared.Answer.the-variants.{Refused, NotProved, NoSpace, Written}
+use Rattle.writer.specs.declared.Writing.{Writing}
+use Rattle.writer.specs.declared.Writing.the-variants.{Refused, NotProved, NoSpace, Written}
 
 -- 8, 9 and 10 by the verdict's kind; a theorem is not among them
 abbrev pub unproved : Kind → ℕ → ℕ → Reply
@@ -25,7 +25,7 @@ unproved (Refuted σ) r k = record { number = NOT-PROVED; values = σ ∷ r ∷ 
 unproved Spent r k = verdictReply Spent r k
 unproved Full r k = verdictReply Full r k
 
-abbrev pub answerOf : Answer → Reply
+abbrev pub answerOf : Writing → Reply
 answerOf (Refused r) = record { number = numberOf r; values = placeOf r ∷ [] }
 answerOf (NotProved v) = unproved (v .kind) (v .reductions) (v .closings)
 answerOf (NoSpace n) = record { number = NO-SPACE; values = n ∷ [] }
@@ -41,7 +41,7 @@ pub record IsTheorem (S : Sequent) (v : Verdict) : Type 0 where
   pub counts : v ≡ record { kind = Theorem; reductions = reductions (tree S .events); closings = closings (tree S .events) }
 
 -- a theorem's answer, and the buffer after it, as `writeOut` has them
-pub record WrittenOut (S : Sequent) (v : Verdict) (old new : List ℕ) (r : Answer) : Type 0 where
+pub record WrittenOut (S : Sequent) (v : Verdict) (old new : List ℕ) (r : Writing) : Type 0 where
   pub reply : answerOf r ≡ writeOut Theorem (v .reductions) (v .closings) (derivation S) old .reply
   pub buffer : new ≡ writeOut Theorem (v .reductions) (v .closings) (derivation S) old .buffer
   pub taken : (n : ℕ) (u : Verdict) → r ≡ Written n u → (u ≡ v) × (take n new ≡ derivation S)

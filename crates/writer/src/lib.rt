@@ -1,9 +1,9 @@
 // Writes the derivation of a theorem.
 use calculus::Kind;
-use calculus::Outcome;
 use calculus::Side;
 use calculus::Verdict;
-use prover::Due;
+use calculus::wide;
+use prover::Finding;
 use question::Reading;
 use question::Refusal;
 use sequent::Running;
@@ -16,15 +16,15 @@ ghost use Rattle.calculus.specs.Bytes.{CONNECTIVE, code, question};
 ghost use Rattle.calculus.specs.Derivation.{REDUCE, orderCode, derivation};
 ghost use Rattle.calculus.specs.Reading.{reading, accepted};
 ghost use Rattle.calculus.specs.Reply.{derive};
-ghost use Rattle.calculus.specs.Tree.{tree, outcome};
+ghost use Rattle.calculus.specs.Tree.{tree};
 ghost use Rattle.calculus.specs.Limits.{ROOM};
 ghost use Rattle.question.specs.Positions.{formulaAt};
 ghost use Rattle.sequent.specs.View.{sequentOf, Stands, Good};
-ghost use Rattle.reduction.specs.Reduction.{compoundAt, IsCompound};
+ghost use Rattle.sequent.specs.Compounds.{compoundAt, IsCompound};
 ghost use Rattle.prover.specs.Inner.{IsDue};
 ghost use Rattle.writer.specs.Answers.{answerOf, laid, IsTheorem, WrittenOut, Evidence};
 
-pub enum Answer {
+pub enum Writing {
     Refused(Refusal),
     // Spent, full or refuted: the verdict.
     NotProved(Verdict),
@@ -67,12 +67,6 @@ fn put_reduction(q: &[u8], buffer: &mut [u8], at: usize, side: Side, place: usiz
     put(buffer, at, command_of(side, b), place as u8)
 }
 
-fn wide(p: u8) -> usize
-    ensures { λ r. ⌜ r ≡ p ⌝ }
-{
-    p as usize
-}
-
 // The derivation of a theorem from a place on; answers the place behind it.
 fn emit(q: &[u8], s: Running, buffer: &mut [u8], at: usize) -> usize
     requires { ⌜
@@ -85,8 +79,8 @@ fn emit(q: &[u8], s: Running, buffer: &mut [u8], at: usize) -> usize
 {
     let due = prover::step(q, s, 1);
     match due {
-        Due::Closed(k) => put(buffer, at, 0x41, k as u8),
-        Due::Reduce(side, place, p) => emit_reduction(q, s, buffer, at, side, place, p),
+        Finding::Closed(k) => put(buffer, at, 0x41, k as u8),
+        Finding::Reduce(side, place, p) => emit_reduction(q, s, buffer, at, side, place, p),
         _ => at,
     }
 }
@@ -131,24 +125,24 @@ fn emit_reduction(
 }
 
 // The derivation of a theorem, if the buffer holds it.
-fn write_out(q: &[u8], v: Verdict, buffer: &mut [u8]) -> Answer
+fn write_out(q: &[u8], v: Verdict, buffer: &mut [u8]) -> Writing
     requires { ⌜ (reading (now q) ≡ accepted) × IsTheorem (question (now q)) v ⌝ }
     ensures { λ r. ⌜ WrittenOut (question (now (q .entry))) v (now (buffer .entry)) (now (buffer .exit)) r ⌝ }
 {
     let needed = 2 * (v.reductions + v.closings);
     if (buffer.len() as u64) < needed {
-        return Answer::NoSpace(needed);
+        return Writing::NoSpace(needed);
     }
     emit(q, reduction::root(q), buffer, 0);
-    Answer::Written(needed, v)
+    Writing::Written(needed, v)
 }
 
 // Decides a question, and writes the derivation of a theorem.
-pub fn derive(q: &[u8], budget: u64, buffer: &mut [u8]) -> Answer
+pub fn derive(q: &[u8], budget: u64, buffer: &mut [u8]) -> Writing
     ensures reply { λ r. ⌜ answerOf r ≡ derive (now (q .entry)) budget (now (buffer .entry)) .reply ⌝ }
     ensures written { λ r. ⌜ now (buffer .exit) ≡ derive (now (q .entry)) budget (now (buffer .entry)) .buffer ⌝ }
     ensures evidence { λ r. ⌜
-        ((n : ℕ) (v : Verdict) → r ≡ Answer.Written n v
+        ((n : ℕ) (v : Verdict) → r ≡ Writing.Written n v
         → (v .kind ≡ Kind.Theorem) × Evidence (now (q .entry)) (take n (now (buffer .exit)))) ⌝ }
 {
     let reading = question::read(q);
@@ -158,9 +152,9 @@ pub fn derive(q: &[u8], budget: u64, buffer: &mut [u8]) -> Answer
             let kind = v.kind;
             match kind {
                 Kind::Theorem => write_out(q, v, buffer),
-                _ => Answer::NotProved(v),
+                _ => Writing::NotProved(v),
             }
         }
-        Reading::Refused(r) => Answer::Refused(r),
+        Reading::Refused(r) => Writing::Refused(r),
     }
 }

@@ -19,13 +19,18 @@ room c = search needs
 inside : (c : tie.Else1) → let a = c .before .before .before .before .args in a .place < countOf (a .side) (a .t2)
 inside c = omega (arith, c .before .count .ensures, c .before .before .wide .ensures)
 
-position-now : (c : tie.After-slot) → let a = c .before .before .before .before .before .args in getD (a .t2 .items) (c .slot .result) 0 ≡ positionAt (a .t2) (a .side) (a .place)
+position-now : (c : tie.After-slot) →
+    let a = c .before .before .before .before .before .args in
+    getD (a .t2 .items) (c .slot .result) 0 ≡ positionAt (a .t2) (a .side) (a .place)
 position-now c =
     let s = c .before .before .before .before .before in
-    rw (c .slot .ensures .0, c .before .before .before .wide .ensures) (position (s .args .q .now) (s .args .t2) (s .pre) (room s) (s .args .side) (s .args .place) 0 (inside (c .before)))
+    let a = s .args in
+    rw (c .slot .ensures .0, c .before .before .before .wide .ensures) (position (a .q .now) (a .t2) (s .pre) (room s) (a .side) (a .place) 0 (inside (c .before)))
 
--- the position whose byte is read
-read-now : (c : tie.After-wide2) → let a = c .before .before .before .before .before .before .before .args in c .wide2 .result ≡ positionAt (a .t2) (a .side) (a .place)
+-- The position whose byte is read is the one that stands at the place.
+read-now : (c : tie.After-wide2) →
+    let a = c .before .before .before .before .before .before .before .args in
+    c .wide2 .result ≡ positionAt (a .t2) (a .side) (a .place)
 read-now c = c .wide2 .ensures ∙ position-now (c .before .before)
 
 pub formula-named-spec : {M : Type 1} → statement M
@@ -36,18 +41,27 @@ formula-named-spec =
     (λ c κs. search needs)
     (λ c k e.
     let s = c .before .before .before .before in
-    no-formula (s .args .q .now) (s .args .t2) (s .pre) (room s) (s .args .side) (s .args .place) (s .args .at) (omega (arith, c .before .count .ensures, c .before .before .wide .ensures)) k)
+    let a = s .args in
+    no-formula (a .q .now) (a .t2) (s .pre) (room s) (a .side) (a .place) (a .at) (omega (arith, c .before .count .ensures, c .before .before .wide .ensures)) k)
     (λ c κs.
     let s = c .before .before .before .before in
-    rw (c .before .before .wide .ensures) (in-room (s .args .q .now) (s .args .t2) (s .pre) (room s) (s .args .side) (s .args .place) 0 (inside c)))
+    let a = s .args in
+    rw (c .before .before .wide .ensures) (in-room (a .q .now) (a .t2) (s .pre) (room s) (a .side) (a .place) 0 (inside c)))
     (λ c. search needs)
     (λ c κs. search needs)
     (λ c.
     let s = c .before .before .before .before .before .before .before .before in
-    rw (read-now (c .before)) (omega (arith, well-inside (s .args .q .now) (positionAt (s .args .t2) (s .args .side) (s .args .place)) (stands (s .args .q .now) (s .args .t2) (s .pre) (room s) (s .args .side) (s .args .place) 0 (inside (c .before .before .before .before)) .well))))
+    let a = s .args in
+    let there = stands (a .q .now) (a .t2) (s .pre) (room s) (a .side) (a .place) 0 (inside (c .before .before .before .before)) in
+    rw (read-now (c .before)) (omega (arith, well-inside (a .q .now) (positionAt (a .t2) (a .side) (a .place)) (there .well))))
     (λ c k e.
     let s = c .before .before .before .before .before .before .before .before .before in
-    other-connective (s .args .q .now) (s .args .t2) (s .pre) (room s) (s .args .side) (s .args .place) (s .args .at) (inside (c .before .before .before .before .before)) k (λ d. c .if2 .taken (rw (read-now (c .before .before)) (d ∙ e))))
+    let a = s .args in
+    let there = inside (c .before .before .before .before .before) in
+    other-connective (a .q .now) (a .t2) (s .pre) (room s) (a .side) (a .place) (a .at) there k (λ d. c .if2 .taken (rw (read-now (c .before .before)) (d ∙ e))))
     (λ c k e.
     let s = c .before .before .before .before .before .before .before .before .before in
-    reduces (s .args .q .now) (s .args .t2) (s .pre) (room s) (s .args .side) (s .args .place) (s .args .at) (inside (c .before .before .before .before .before)) k (rw (read-now (c .before .before)) at (c .if2 .left) ∙ sym e) _ (position-now (c .before .before .before .before))))
+    let a = s .args in
+    let same = rw (read-now (c .before .before)) at (c .if2 .left) in
+    let there = inside (c .before .before .before .before .before) in
+    reduces (a .q .now) (a .t2) (s .pre) (room s) (a .side) (a .place) (a .at) there k (same ∙ sym e) _ (position-now (c .before .before .before .before))))

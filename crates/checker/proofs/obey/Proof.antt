@@ -15,16 +15,24 @@ obey-spec =
     (λ c κs. search needs)
     (λ c.
     let s = c .before .before .before .before .before .before in
-    closed (s .args .q .now) (s .args .s) (s .args .x) (s .args .at) (s .args .b) (c .before .closes .result) (s .pre) (sym (c .before .before .before .before .order-of .ensures) ∙ c .before .before .enum-told .given .1) (c .before .closes .ensures) (c .if1 .taken))
+    let a = s .args in
+    let u = c .before .closes in
+    let e = sym (c .before .before .before .before .order-of .ensures) ∙ c .before .before .enum-told .given .1 in
+    closed (a .q .now) (a .s) (a .x) (a .at) (a .b) (u .result) (s .pre) e (u .ensures) (c .if1 .taken))
     (λ c. search needs)
     (λ c κs. search needs)
     (λ c. search needs)
     (λ c.
     let s = c .before .before .before .before .before .before in
-    not-closed (s .args .q .now) (s .args .s) (s .args .x) (s .args .at) (s .args .b) (c .before .closes .result) (s .pre) (sym (c .before .before .before .before .order-of .ensures) ∙ c .before .before .enum-told .given .1) (c .before .closes .ensures) (c .if1 .left))
+    let a = s .args in
+    let u = c .before .closes in
+    let e = sym (c .before .before .before .before .order-of .ensures) ∙ c .before .before .enum-told .given .1 in
+    not-closed (a .q .now) (a .s) (a .x) (a .at) (a .b) (u .result) (s .pre) e (u .ensures) (c .if1 .left))
     (λ c.
-    let s = c .before .before .before .before .before .before in
-    reduction (s .args .q .now) (s .args .s) (s .args .x) (s .args .at) (s .args .b) _ _ (c .formula-named .result) (sym (c .before .before .before .before .order-of .ensures) ∙ c .before .before .order .given .1) (c .formula-named .ensures))
+    let a = c .before .before .before .before .before .before .args in
+    let u = c .formula-named in
+    let e = sym (c .before .before .before .before .order-of .ensures) ∙ c .before .before .order .given .1 in
+    reduction (a .q .now) (a .s) (a .x) (a .at) (a .b) _ _ (u .result) e (u .ensures))
     (λ c.
-    let s = c .before .before .before .before in
-    unknown (s .args .q .now) (s .args .s) (s .args .x) (s .args .at) (s .args .b) (sym (c .before .before .order-of .ensures) ∙ c .enum-told2 .given .1)))
+    let a = c .before .before .before .before .args in
+    unknown (a .q .now) (a .s) (a .x) (a .at) (a .b) (sym (c .before .before .order-of .ensures) ∙ c .enum-told2 .given .1)))

@@ -13,7 +13,10 @@ add-if1-2 : tie.Need-add-if1-2
 add-if1-2 c = search needs
 
 returns : tie.Need-returns
-returns c = over-first (c .before .before .args .rule) (c .before .before .args .n) (c .before .placed .result) (c .before .placed .ensures .0) (c .if1 .taken)
+returns c =
+    let a = c .before .before .args in
+    let u = c .before .placed in
+    over-first (a .rule) (a .n) (u .result) (u .ensures .0) (c .if1 .taken)
 
 add-result : tie.Need-add-result
 add-result c = search needs
@@ -25,10 +28,17 @@ add-result-2 : tie.Need-add-result-2
 add-result-2 c = search needs
 
 returns-2 : tie.Need-returns-2
-returns-2 c = over-second (c .before .before .before .before .before .args .rule) (c .before .before .before .before .before .args .n) (c .before .before .before .before .placed .result) (c .placed2 .result) (c .before .before .before .before .placed .ensures .0) (c .before .before .before .if1 .left) (c .before .if2 .taken) (c .placed2 .ensures .0)
+returns-2 c =
+    let a = c .before .before .before .before .before .args in
+    let u = c .before .before .before .before .placed in
+    let v = c .placed2 in
+    over-second (a .rule) (a .n) (u .result) (v .result) (u .ensures .0) (c .before .before .before .if1 .left) (c .before .if2 .taken) (v .ensures .0)
 
 returns-3 : tie.Need-returns-3
-returns-3 c = over-not (c .before .before .before .before .args .rule) (c .before .before .before .before .args .n) (c .before .before .before .placed .result) (c .before .before .before .placed .ensures .0) (c .before .before .if1 .left) (c .if2 .left)
+returns-3 c =
+    let a = c .before .before .before .before .args in
+    let u = c .before .before .before .placed in
+    over-not (a .rule) (a .n) (u .result) (u .ensures .0) (c .before .before .if1 .left) (c .if2 .left)
 
 pub overfull-spec : {M : Type 1} → statement M
 overfull-spec =

@@ -26,7 +26,7 @@ returns c =
     let a = c .before .before .before .before .args in
     let p = c .before .before .formula-part .result in
     let e : p .start + p .count - p .start ≡ p .count = omega arith in
-    rw (e, c .before .before .formula-part .ensures) (handed (a .q .now) (a .side) (a .place) .own, refl)
+    rw (e, c .before .before .formula-part .ensures) (handed (a .q .now) (a .side) (a .place) .own, (refl, refl))
 
 pub formula-spec : {M : Type 1} → statement M
 formula-spec =

@@ -1,4 +1,5 @@
 use mathlib.Core.Path.{ap}
+use Prim.Native.Nat.{_≤_}
 use native.Mathlib.Omega.{arith}
 use lib.ListN.{length, drop, length-take, length-drop}
 use Rattle.calculus.specs.Reply.{formulaPart}
@@ -6,51 +7,38 @@ use borrow.Author.Needs.{needs}
 use Rattle.reader_cases.proofs.hand_out.Statement.{statement}
 use Rattle.reader_cases.proofs.hand_out.Tie as tie
 
-formula-requires : tie.Need-formula-requires
-formula-requires c κs = search needs
+-- a formula's bytes are a part of the question's
+short : (c : tie.After-formula) → length (c .formula .result .now) ≤ 212
+short c =
+    let s = c .before .before .before in
+    let q = s .args .q .now in
+    let p = formulaPart q (s .args .side) (s .args .place) in
+    omega (arith, ap length (c .formula .ensures .1 .0), length-take (p .count) (drop (p .start) q), length-drop (p .start) q, s .pre)
 
-word-requires : tie.Need-word-requires
-word-requires c κs = search needs
+put-bytes-requires : tie.Need-put-bytes-requires
+put-bytes-requires c κs = let put = c .before .before .before in omega (arith, put .put-place .ensures, short (put .before .before))
 
-number-requires : tie.Need-number-requires
-number-requires c κs = search needs
-
-slice-aggregate-word : tie.Need-slice-aggregate-word
-slice-aggregate-word c = search needs
-
-word-requires-2 : tie.Need-word-requires-2
-word-requires-2 c κs = search needs
-
-slice-aggregate-word-2 : tie.Need-slice-aggregate-word-2
-slice-aggregate-word-2 c = search needs
-
-word-requires-3 : tie.Need-word-requires-3
-word-requires-3 c κs = search needs
-
-bytes-requires : tie.Need-bytes-requires
-bytes-requires c κs =
-    let f = c .before .before .before .before .before .formula in
-    let s = c .before .before .before .before .before .before .before .before in
-    let p = formulaPart (s .args .q .now) (s .args .side) (s .args .place) in
-    omega (arith, ap length (f .ensures .1), length-take (p .count) (drop (p .start) (s .args .q .now)), length-drop (p .start) (s .args .q .now), s .pre)
-
-end-line-requires : tie.Need-end-line-requires
-end-line-requires c κs = search needs
-
-returns : tie.Need-returns
-returns c = search needs
+write-requires-2 : tie.Need-write-requires-2
+write-requires-2 c κs =
+    let bytes = c .before .before in
+    let put = bytes .before .before .before .before in
+    omega (arith, bytes .put-bytes .ensures .0, put .put-place .ensures, short (put .before .before))
 
 pub hand-out-spec : {M : Type 1} → statement M
 hand-out-spec =
     tie.close
     (tie.spec
-    formula-requires
-    word-requires
-    number-requires
-    slice-aggregate-word
-    word-requires-2
-    slice-aggregate-word-2
-    word-requires-3
-    bytes-requires
-    end-line-requires
-    returns)
+    (λ c κs. search needs)
+    (λ c. search needs)
+    (λ c κs. search needs)
+    (λ c. search needs)
+    (λ c. search needs)
+    (λ c κs. search needs)
+    (λ c. search needs)
+    (λ c κs. search needs)
+    (λ c. search needs)
+    (λ c. search needs)
+    put-bytes-requires
+    (λ c. search needs)
+    write-requires-2
+    (λ c. search needs))

@@ -9,13 +9,13 @@ use Rattle.calculus.specs.Syntax.{on-side}
 use Rattle.calculus.specs.Bytes.{question, startOf}
 use Rattle.question.specs.Positions.{endOf}
 use Rattle.question.proofs.Walks.{well-inside}
-use Rattle.reduction.specs.Reduction.{Loaded}
+use Rattle.reduction.specs.Reduction.{SideLoaded}
 use Rattle.reduction.proofs.Roots.{short, few, stands-there, next-start, loading-starts, loading-goes, loading-room}
 use Rattle.reduction.proofs.load.Statement.{statement}
 use Rattle.reduction.proofs.load.Tie as tie
 
 abbrev Inv-loop : tie.InvT-loop
-Inv-loop q side at₀ n r₀ i₀ at r i = (i ≤ n) × (at ≡ startOf side i (question q)) × (length (r .items) ≡ ROOM) × Loaded q side i r₀ r
+Inv-loop q side at₀ n r₀ i₀ at r i = (i ≤ n) × (at ≡ startOf side i (question q)) × (length (r .items) ≡ ROOM) × SideLoaded q side i r₀ r
 
 abbrev μ-loop : tie.MeasureT-loop
 μ-loop q side at₀ n r₀ i₀ at r i = n - i

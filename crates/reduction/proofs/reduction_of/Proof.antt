@@ -1,9 +1,10 @@
-use mathlib.Core.Path.{sym}
+use mathlib.Core.Path.{sym, ap}
+use Prim.Native.Nat.{ℕ, _+_}
 use native.Mathlib.Omega.{arith}
 use Rattle.question.specs.Positions.{formulaAt}
 use Rattle.question.proofs.Walks.{well-inside}
-use Rattle.reduction.specs.Reduction.{compoundAt}
-use Rattle.reduction.proofs.Compounds.{compound-parts, byte-range, lettered-parts}
+use Rattle.sequent.specs.Compounds.{compoundAt}
+use Rattle.sequent.proofs.Compounds.{compound-parts, byte-range, lettered-parts}
 use borrow.Author.Needs.{needs}
 use Rattle.reduction.proofs.reduction_of.Statement.{statement}
 use Rattle.reduction.proofs.reduction_of.Tie as tie
@@ -30,14 +31,19 @@ cast-t10 : tie.Need-cast-t10
 cast-t10 c = let a = c .before .before .before .before .before .args in let h = c .before .before .before .before .before .pre in omega (arith, well-inside (a .q .now) (c .second-part .result) (c .second-part .ensures .well), h .0)
 
 returns : tie.Need-returns
-returns c = let a = c .before .before .before .before .before .args in let h = c .before .before .before .before .before .pre in
-    let x = compound-parts (a .q .now) (a .p) (h .1 .well) (h .2) in
-    let l = lettered-parts (formulaAt (a .q .now) (a .p)) (h .2) (h .1 .lettered) in
-    let s = rw (c .before .before .before .wide .ensures) at (c .second-part .ensures) in
+returns c =
+    let b = c .before .before .before .before .before in
+    let q = b .args .q .now in
+    let p = b .args .p in
+    let at = c .before .before .before .wide .ensures in
+    let x = compound-parts q p (b .pre .1 .well) (b .pre .2) in
+    let l = lettered-parts (formulaAt q p) (b .pre .2) (b .pre .1 .lettered) in
+    let s = rw at at (c .second-part .ensures) in
+    let rule = c .before .rule-of .ensures (compoundAt q p .connective) (rw at (sym (x .byte))) in
     record {
-      rows = c .before .rule-of .ensures (compoundAt (a .q .now) (a .p) .connective) (rw (c .before .before .before .wide .ensures) (sym (x .byte)));
-      first-stands = rw (c .before .before .before .wide .ensures) (record { well = x .first-well; lettered = rw (x .first) (l .0) });
-      first = rw (c .before .before .before .wide .ensures) (x .first);
+      exact = λ i. record { rule = rule i; f = ap (λ (n : ℕ). n + 1) at i; g = s .start i };
+      first-stands = rw at (record { well = x .first-well; lettered = rw (x .first) (l .0) });
+      first = rw at (x .first);
       second-stands = record { well = s .well; lettered = rw (s .stands) (l .1) };
       second = s .stands;
     }

@@ -1,6 +1,7 @@
 use native.Mathlib.Omega.{arith}
 use Rattle.question.proofs.Walks.{well-inside}
-use Rattle.reduction.proofs.Compounds.{compound-parts, second-not, second-two}
+use Rattle.sequent.proofs.Compounds.{compound-parts}
+use Rattle.reduction.proofs.Seconds.{second-not, second-two}
 use Rattle.reduction.proofs.second_part.Statement.{statement}
 use Rattle.reduction.proofs.second_part.Tie as tie
 

@@ -38,10 +38,19 @@ loop-less : tie.Need-loop-less Inv-loop μ-loop
 loop-less c = omega arith
 
 loop-again : tie.Need-loop-again Inv-loop μ-loop
-loop-again c = let a = c .before .before .before .before .before .args in let o = shutting-goes (a .side) (a .at) (a .n) (c .before .before .before .before .before .pre .1) (a .items .now) (c .before .before .before .before .before .pre .2) (c .before .before .before .before .loop .i) (c .before .before .before .before .loop .items) (c .before .before .before .before .loop .inv) (c .before .before .before .loop-test .taken) in rw (c .slot2 .ensures .0, c .before .before .slot .ensures .0) o
+loop-again c =
+    let b = c .before .before .before .before .before in
+    let a = b .args in
+    let l = c .before .before .before .before .loop in
+    let next = shutting-goes (a .side) (a .at) (a .n) (b .pre .1) (a .items .now) (b .pre .2) (l .i) (l .items) (l .inv) (c .before .before .before .loop-test .taken) in
+    rw (c .slot2 .ensures .0, c .before .before .slot .ensures .0) next
 
 returns : tie.Need-returns Inv-loop μ-loop
-returns c = let a = c .before .before .args in shutting-ends (a .side) (a .at) (a .n) (c .before .before .pre .1) (a .items .now) (c .before .before .pre .2) (c .before .loop .i) (c .before .loop .items) (c .before .loop .inv) (c .loop-test .left)
+returns c =
+    let b = c .before .before in
+    let a = b .args in
+    let l = c .before .loop in
+    shutting-ends (a .side) (a .at) (a .n) (b .pre .1) (a .items .now) (b .pre .2) (l .i) (l .items) (l .inv) (c .loop-test .left)
 
 pub close-gap-spec : {M : Type 1} → statement M
 close-gap-spec =

@@ -10,25 +10,37 @@ wide-requires : tie.Need-wide-requires
 wide-requires c κs = search needs
 
 shared-slice-read-if1 : tie.Need-shared-slice-read-if1
-shared-slice-read-if1 c = omega (arith, c .before .wide .ensures, well-inside (c .before .before .before .args .q .now) (c .before .before .before .args .p) (c .before .before .before .pre .well))
+shared-slice-read-if1 c =
+    let b = c .before .before .before in
+    omega (arith, c .before .wide .ensures, well-inside (b .args .q .now) (b .args .p) (b .pre .well))
 
 add-result : tie.Need-add-result
 add-result c = search needs
 
 shared-slice-read-result : tie.Need-shared-slice-read-result
-shared-slice-read-result c = omega (arith, c .before .before .before .wide .ensures, well-inside (c .before .before .before .before .before .args .q .now) (c .before .before .before .before .before .args .p) (c .before .before .before .before .before .pre .well))
+shared-slice-read-result c =
+    let b = c .before .before .before .before .before in
+    omega (arith, c .before .before .before .wide .ensures, well-inside (b .args .q .now) (b .args .p) (b .pre .well))
 
 cast-result : tie.Need-cast-result
 cast-result c = omega (arith, c .shared-slice-known3 .given (c .before .before .before .wide .result + 1))
 
 shl-result : tie.Need-shl-result
-shl-result c = let a = c .before .before .before .before .before .args in rw (c .before .before .before .wide .ensures) (letter-is (a .q .now) (a .p) (c .before .before .before .before .before .pre) (rw (c .before .before .before .wide .ensures) at (c .before .if1 .taken)) .1)
+shl-result c =
+    let b = c .before .before .before .before .before in
+    let w = c .before .before .before .wide .ensures in
+    rw w (letter-is (b .args .q .now) (b .args .p) (b .pre) (rw w at (c .before .if1 .taken)) .1)
 
 returns : tie.Need-returns
-returns c = let a = c .before .before .before .before .before .args in rw (c .before .before .before .wide .ensures) (letter-bit (a .q .now) (a .p) (c .before .before .before .before .before .pre) (rw (c .before .before .before .wide .ensures) at (c .before .if1 .taken)))
+returns c =
+    let b = c .before .before .before .before .before in
+    let w = c .before .before .before .wide .ensures in
+    rw w (letter-bit (b .args .q .now) (b .args .p) (b .pre) (rw w at (c .before .if1 .taken)))
 
 returns-2 : tie.Need-returns-2
-returns-2 c = let a = c .before .before .before .before .args in no-bit (a .q .now) (a .p) (c .before .before .before .before .pre) (rw (c .before .before .wide .ensures) at (c .if1 .left))
+returns-2 c =
+    let b = c .before .before .before .before in
+    no-bit (b .args .q .now) (b .args .p) (b .pre) (rw (c .before .before .wide .ensures) at (c .if1 .left))
 
 pub letter-bit-spec : {M : Type 1} → statement M
 letter-bit-spec =

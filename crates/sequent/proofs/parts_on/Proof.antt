@@ -13,22 +13,41 @@ letter-bit-requires-2 : tie.Need-letter-bit-requires-2
 letter-bit-requires-2 c κs = search needs
 
 returns : tie.Need-returns
-returns c = let a = c .before .before .before .before .before .before .before .before .args in sorted-two (a .q .now) (a .side) (a .p) (a .f) (a .g) (c .before .before .before .before .before .before .side-code .result) (c .before .before .before .before .before .before .side-code .ensures .0) (c .before .before .before .before .if1 .taken) (c .before .before .if2 .taken) (c .before .letter-bit .result) (c .letter-bit2 .result) (c .before .letter-bit .ensures) (c .letter-bit2 .ensures)
+returns c =
+    let a = c .before .before .before .before .before .before .before .before .args in
+    let u = c .before .before .before .before .before .before .side-code in
+    let m = c .before .letter-bit in
+    let n = c .letter-bit2 in
+    sorted-two (a .q .now) (a .side) (a .p) (a .f) (a .g) (u .result) (u .ensures .0) (c .before .before .before .before .if1 .taken) (c .before .before .if2 .taken)
+    (m .result) (n .result) (m .ensures) (n .ensures)
 
 letter-bit-requires-3 : tie.Need-letter-bit-requires-3
 letter-bit-requires-3 c κs = search needs
 
 returns-2 : tie.Need-returns-2
-returns-2 c = let a = c .before .before .before .before .before .before .before .args in sorted-first (a .q .now) (a .side) (a .p) (a .f) (a .g) (c .before .before .before .before .before .side-code .result) (c .before .before .before .before .before .side-code .ensures .0) (c .before .before .before .if1 .taken) (c .before .if2 .left) (c .letter-bit3 .result) (c .letter-bit3 .ensures)
+returns-2 c =
+    let a = c .before .before .before .before .before .before .before .args in
+    let u = c .before .before .before .before .before .side-code in
+    let m = c .letter-bit3 in
+    sorted-first (a .q .now) (a .side) (a .p) (a .f) (a .g) (u .result) (u .ensures .0) (c .before .before .before .if1 .taken) (c .before .if2 .left)
+    (m .result) (m .ensures)
 
 letter-bit-requires-4 : tie.Need-letter-bit-requires-4
 letter-bit-requires-4 c κs = search needs
 
 returns-3 : tie.Need-returns-3
-returns-3 c = let a = c .before .before .before .before .before .before .before .args in sorted-second (a .q .now) (a .side) (a .p) (a .f) (a .g) (c .before .before .before .before .before .side-code .result) (c .before .before .before .before .before .side-code .ensures .0) (c .before .before .before .if1 .left) (c .before .if3 .taken) (c .letter-bit4 .result) (c .letter-bit4 .ensures)
+returns-3 c =
+    let a = c .before .before .before .before .before .before .before .args in
+    let u = c .before .before .before .before .before .side-code in
+    let m = c .letter-bit4 in
+    sorted-second (a .q .now) (a .side) (a .p) (a .f) (a .g) (u .result) (u .ensures .0) (c .before .before .before .if1 .left) (c .before .if3 .taken)
+    (m .result) (m .ensures)
 
 returns-4 : tie.Need-returns-4
-returns-4 c = let a = c .before .before .before .before .before .before .args in sorted-none (a .q .now) (a .side) (a .p) (a .f) (a .g) (c .before .before .before .before .side-code .result) (c .before .before .before .before .side-code .ensures .0) (c .before .before .if1 .left) (c .if3 .left)
+returns-4 c =
+    let a = c .before .before .before .before .before .before .args in
+    let u = c .before .before .before .before .side-code in
+    sorted-none (a .q .now) (a .side) (a .p) (a .f) (a .g) (u .result) (u .ensures .0) (c .before .before .if1 .left) (c .if3 .left)
 
 pub parts-on-spec : {M : Type 1} → statement M
 parts-on-spec =

@@ -39,7 +39,9 @@ returns c =
     let a = c .before .before .before .before .before .before .before .before .before .before .before .before .args in
     let v = c .before .before .before .before .before .before .verdict-of in
     let w = c .before .before .write-out in
-    let all = theorem-answers (a .q .now) (a .budget) (accepted-now (c .before .before .before .before .before .before .before)) (v .result) (v .ensures) (a .buffer .now) _ (w .result) (c .before .before .before .before .enum-told2 .given .1) (w .ensures) in
+    let h = accepted-now (c .before .before .before .before .before .before .before) in
+    let k = c .before .before .before .before .enum-told2 .given .1 in
+    let all = theorem-answers (a .q .now) (a .budget) h (v .result) (v .ensures) (a .buffer .now) _ (w .result) k (w .ensures) in
     (all .0, (all .1, all .2))
 
 returns-2 : tie.Need-returns-2

@@ -1,11 +1,11 @@
 use mathlib.Core.List.{[], _∷_}
 use Prim.Native.Nat.{ℕ}
-use Rattle.reduction.specs.Reduction.{compoundAt}
+use Rattle.sequent.specs.Compounds.{compoundAt}
 use Rattle.writer.specs.Answers.{laid}
 use mathlib.Core.Path.{sym, ap, _∙_}
 use native.Mathlib.Omega.{arith}
 use Rattle.question.proofs.Walks.{well-inside}
-use Rattle.reduction.proofs.Compounds.{byte-range, compound-parts}
+use Rattle.sequent.proofs.Compounds.{byte-range, compound-parts}
 use borrow.Author.Needs.{needs}
 use Rattle.writer.proofs.put_reduction.Statement.{statement}
 use Rattle.writer.proofs.put_reduction.Tie as tie
@@ -14,10 +14,14 @@ wide-requires : tie.Need-wide-requires
 wide-requires c κs = search needs
 
 shared-slice-read-b : tie.Need-shared-slice-read-b
-shared-slice-read-b c = let a = c .before .before .before .before .args in let h = c .before .before .before .before .pre in omega (arith, c .before .wide .ensures, well-inside (a .q .now) (a .p) (h .2 .well))
+shared-slice-read-b c =
+    let b = c .before .before .before .before in
+    omega (arith, c .before .wide .ensures, well-inside (b .args .q .now) (b .args .p) (b .pre .2 .well))
 
 command-of-requires : tie.Need-command-of-requires
-command-of-requires c κs = let a = c .before .before .before .before .before .args in let h = c .before .before .before .before .before .pre in rw (c .before .before .wide .ensures) (byte-range (a .q .now) (a .p) (h .2 .well) (h .3) .1)
+command-of-requires c κs =
+    let b = c .before .before .before .before .before in
+    rw (c .before .before .wide .ensures) (byte-range (b .args .q .now) (b .args .p) (b .pre .2 .well) (b .pre .3) .1)
 
 cast-put : tie.Need-cast-put
 cast-put c = search needs
@@ -30,10 +34,14 @@ same-length c = search needs
 
 returns : tie.Need-returns
 returns c =
-    let a = c .before .before .before .before .before .before .before .before .before .args in
-    let h = c .before .before .before .before .before .before .before .before .before .pre in
+    let b = c .before .before .before .before .before .before .before .before .before in
+    let a = b .args in
+    let h = b .pre in
     let x = compound-parts (a .q .now) (a .p) (h .2 .well) (h .3) in
-    (c .before .before .put .ensures .0, c .before .before .put .ensures .1 ∙ ap (λ (n : ℕ). laid (a .buffer .now) (a .at) (n ∷ a .place ∷ [])) (c .before .before .before .command-of .ensures (compoundAt (a .q .now) (a .p) .connective) (rw (c .before .before .before .before .before .before .wide .ensures) (sym (x .byte)))))
+    let w = c .before .before .put .ensures in
+    let p = c .before .before .before .before .before .before .wide .ensures in
+    let command = c .before .before .before .command-of .ensures (compoundAt (a .q .now) (a .p) .connective) (rw p (sym (x .byte))) in
+    (w .0, w .1 ∙ ap (λ (n : ℕ). laid (a .buffer .now) (a .at) (n ∷ a .place ∷ [])) command)
 
 pub put-reduction-spec : {M : Type 1} → statement M
 put-reduction-spec =

@@ -3,6 +3,7 @@ use mathlib.Core.Path.{refl, ap}
 use Prim.Native.Nat.{ℕ, _+_, _-_}
 use native.Mathlib.Omega.{arith}
 use borrow.Author.Needs.{needs}
+use Rattle.sequent.proofs.Rows.{rows-of}
 use Rattle.decider.proofs.Sets.reduction.Statement.{statement}
 use Rattle.decider.proofs.Sets.reduction.Tie as tie
 
@@ -18,24 +19,27 @@ reduction-spec =
     (λ c κs. search needs)
     (λ c. search needs)
     (λ c.
-    let n = c .before .before .before .before .before .before .before .args .self .size in
+    let a = c .before .before .before .before .before .before .before .args in
+    let n = a .self .size in
     let u = c .before .before .before .before .rule-of in
     let p = c .before .before .parts in
-    (n - 1 + p .result, record { rule = u .result; rows = u .ensures; size = ap (λ (k : ℕ). n - 1 + k) (p .ensures .0) }, c .if1 .taken))
+    (n - 1 + p .result, record { rule = u .result; rows = λ k e. rows-of k (a .side) (u .result) (u .ensures k e); size = ap (λ (k : ℕ). n - 1 + k) (p .ensures .0) }, c .if1 .taken))
     (λ c.
-    let n = c .before .before .before .before .before .before .before .before .args .self .size in
+    let a = c .before .before .before .before .before .before .before .before .args in
+    let n = a .self .size in
     let u = c .before .before .before .before .before .rule-of in
     let p = c .before .before .before .parts in
-    (n - 1 + p .result, record { rule = u .result; rows = u .ensures; size = ap (λ (k : ℕ). n - 1 + k) (p .ensures .0) }, c .before .if1 .left, c .if2 .taken))
+    (n - 1 + p .result, record { rule = u .result; rows = λ k e. rows-of k (a .side) (u .result) (u .ensures k e); size = ap (λ (k : ℕ). n - 1 + k) (p .ensures .0) }, c .before .if1 .left, c .if2 .taken))
     (λ c. search needs)
     (λ c. search needs)
     (λ c. search needs)
     (λ c.
+    let a = c .before .before .before .before .before .before .before .before .before .args in
     let u = c .before .before .before .before .before .before .rule-of in
     let p = c .before .before .before .before .parts in
     record {
       side = refl;
-      rows = u .ensures;
+      rows = λ k e. rows-of k (a .side) (u .result) (u .ensures k e);
       first = refl;
       second = refl;
       rest = rw (p .ensures .0);

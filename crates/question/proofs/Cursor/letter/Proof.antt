@@ -1,6 +1,6 @@
-use native.Mathlib.Omega.{arith}
+use mathlib.Core.Path.{sym}
+use Rattle.question.proofs.Readers.{letter-cut, letter-none, letter-read}
 use borrow.Author.Needs.{needs}
-use Rattle.question.proofs.Readers.{read-end, read-operand, read-no-operand}
 use Rattle.question.proofs.Cursor.letter.Statement.{statement}
 use Rattle.question.proofs.Cursor.letter.Tie as tie
 
@@ -9,17 +9,18 @@ add-operand c = search needs
 
 returns : tie.Need-returns
 returns c =
-    let h = c .if1 .taken in
-    (λ s. rw read-end, tt)
+    let o = c .before .before in
+    let p = o .pre in
+    (sym (letter-cut (o .args .q .now) (o .args .self) (p .3) (p .4) (p .1) (p .2) (c .if1 .taken)), tt)
 
 shared-slice-read-if2 : tie.Need-shared-slice-read-if2
 shared-slice-read-if2 c = search needs
 
 returns-2 : tie.Need-returns-2
 returns-2 c =
-    let h = c .before .before .if1 .left in
-    let l = c .if2 .taken in
-    (λ s. rw read-no-operand, tt)
+    let o = c .before .before .before .before in
+    let p = o .pre in
+    (sym (letter-none (o .args .q .now) (o .args .self) (p .3) (p .4) (p .1) (p .2) (c .before .before .if1 .left) (c .if2 .taken)), tt)
 
 add-t4 : tie.Need-add-t4
 add-t4 c = search needs
@@ -29,9 +30,9 @@ sub-t8 c = search needs
 
 returns-3 : tie.Need-returns-3
 returns-3 c =
-    let h = c .before .before .before .if1 .left in
-    let l = c .before .if2 .left in
-    (λ s. rw read-operand, omega arith)
+    let o = c .before .before .before .before .before in
+    let p = o .pre in
+    (sym (letter-read (o .args .q .now) (o .args .self) (p .3) (p .4) (p .1) (p .2) (c .before .before .before .if1 .left) (c .before .if2 .left)), search needs)
 
 pub letter-spec : {M : Type 1} → statement M
 letter-spec =

@@ -19,13 +19,39 @@ parts-on-requires-2 : tie.Need-parts-on-requires-2
 parts-on-requires-2 c κs = search needs
 
 replace-requires : tie.Need-replace-requires
-replace-requires c κs = let a = c .before .before .before .before .args in let h = c .before .before .before .before .pre in let size = size-at (c .before .before .before .before) in replace-fits (a .q .now) (a .self) (h .0) size (a .p) (a .f) (a .g) (h .1) (h .2) (a .side) (a .at) (h .3) (h .4) (c .before .before .parts-on .result) (c .parts-on2 .result) (c .before .before .parts-on .ensures) (rw (c .before .other .ensures) at (c .parts-on2 .ensures))
+replace-requires c κs =
+    let b = c .before .before .before .before in
+    let a = b .args in
+    let h = b .pre in
+    let u = c .before .before .parts-on in
+    let o = c .before .other .ensures in
+    let v = c .parts-on2 in
+    replace-fits (a .q .now) (a .self) (h .0) (size-at b) (a .p) (a .f) (a .g) (h .1) (h .2) (a .side) (a .at) (h .3) (h .4)
+    (u .result) (v .result) (u .ensures) (rw o at (v .ensures))
 
 append-requires : tie.Need-append-requires
-append-requires c κs = let a = c .before .before .before .before .before .args in let h = c .before .before .before .before .before .pre in let size = size-at (c .before .before .before .before .before) in append-fits (a .q .now) (a .self) (h .0) size (a .p) (a .f) (a .g) (h .1) (h .2) (a .side) (a .at) (h .3) (h .4) (c .before .before .before .parts-on .result) (c .before .parts-on2 .result) (c .before .before .before .parts-on .ensures) (rw (c .before .before .other .ensures) at (c .before .parts-on2 .ensures)) (c .replace .result) (c .replace .ensures)
+append-requires c κs =
+    let b = c .before .before .before .before .before in
+    let a = b .args in
+    let h = b .pre in
+    let u = c .before .before .before .parts-on in
+    let o = c .before .before .other .ensures in
+    let v = c .before .parts-on2 in
+    append-fits (a .q .now) (a .self) (h .0) (size-at b) (a .p) (a .f) (a .g) (h .1) (h .2) (a .side) (a .at) (h .3) (h .4)
+    (u .result) (v .result) (u .ensures) (rw o at (v .ensures)) (c .replace .result) (c .replace .ensures)
 
 returns : tie.Need-returns
-returns c = let a = c .before .before .before .before .before .before .args in let h = c .before .before .before .before .before .before .pre in let size = size-at (c .before .before .before .before .before .before) in premise-made (a .q .now) (a .self) (h .0) size (a .p) (a .f) (a .g) (h .1) (h .2) (a .side) (a .at) (h .3) (h .4) (c .before .before .before .before .parts-on .result) (c .before .before .parts-on2 .result) (c .before .before .before .before .parts-on .ensures) (rw (c .before .before .before .other .ensures) at (c .before .before .parts-on2 .ensures)) (c .before .replace .result) (c .before .replace .ensures) (c .append .result) (rw (c .before .before .before .other .ensures) at (c .append .ensures))
+returns c =
+    let b = c .before .before .before .before .before .before in
+    let a = b .args in
+    let h = b .pre in
+    let u = c .before .before .before .before .parts-on in
+    let o = c .before .before .before .other .ensures in
+    let v = c .before .before .parts-on2 in
+    let w = c .before .replace in
+    let z = c .append in
+    premise-made (a .q .now) (a .self) (h .0) (size-at b) (a .p) (a .f) (a .g) (h .1) (h .2) (a .side) (a .at) (h .3) (h .4)
+    (u .result) (v .result) (u .ensures) (rw o at (v .ensures)) (w .result) (w .ensures) (z .result) (rw o at (z .ensures))
 
 pub premise-spec : {M : Type 1} → statement M
 premise-spec =

@@ -16,7 +16,13 @@ append-requires : tie.Need-append-requires
 append-requires c κs = search needs
 
 returns : tie.Need-returns
-returns c = let a = c .before .before .before .args in let h = c .before .before .before .pre in pushed (a .q .now) (a .self) (h .0) (size-at (c .before .before .before)) (a .p) (h .1) (h .2) (a .side) (c .before .letter-bit .result) (c .before .letter-bit .ensures) (c .append .result) (c .append .ensures)
+returns c =
+    let b = c .before .before .before in
+    let a = b .args in
+    let h = b .pre in
+    let u = c .before .letter-bit in
+    let v = c .append in
+    pushed (a .q .now) (a .self) (h .0) (size-at b) (a .p) (h .1) (h .2) (a .side) (u .result) (u .ensures) (v .result) (v .ensures)
 
 pub push-spec : {M : Type 1} → statement M
 push-spec = tie.close (tie.spec letter-bit-requires append-requires returns)

@@ -1,19 +1,23 @@
-use mathlib.Core.Path.{_≡_, ap}
-use Prim.Native.Nat.{_-_}
+use mathlib.Core.Path.{_≡_}
 use native.Mathlib.Omega.{arith}
 use lib.ListN.{length}
-use borrow.Author.Needs.{needs}
 use Rattle.calculus.specs.Limits.{ROOM}
 use Rattle.sequent.proofs.Changes.{sides, removed}
 use borrow.Author.Needs.{needs}
 use Rattle.sequent.proofs.Running.remove.Statement.{statement}
 use Rattle.sequent.proofs.Running.remove.Tie as tie
 
+size-at : (c : tie.Start) → length (c .args .t1 .items) ≡ ROOM
+size-at c = search needs
+
 count-requires : tie.Need-count-requires
 count-requires c κs = search needs
 
 close-gap-requires : tie.Need-close-gap-requires
-close-gap-requires c κs = let a = c .before .before .args in let k : length (a .t1 .items) ≡ ROOM = search needs in let p = c .before .before .pre in (omega (arith, c .before .count .ensures), omega (arith, c .before .count .ensures, sides (a .side) (a .t1)), k)
+close-gap-requires c κs =
+    let b = c .before .before in
+    let n = c .before .count .ensures in
+    (omega (arith, n, b .pre), omega (arith, n, b .pre, sides (b .args .side) (b .args .t1)), size-at b)
 
 sub-settle : tie.Need-sub-settle
 sub-settle c = search needs
@@ -22,7 +26,12 @@ settle-requires : tie.Need-settle-requires
 settle-requires c κs = search needs
 
 returns : tie.Need-returns
-returns c = let a = c .before .before .before .before .args in let k : length (a .t1 .items) ≡ ROOM = search needs in let p = c .before .before .before .before .pre in rw (c .settle .ensures, c .before .before .before .count .ensures) (removed (a .side) (a .t1) k (a .at) (p .0) (p .1) (c .before .close-gap .last .0) (rw (c .before .before .before .count .ensures) at (c .before .close-gap .ensures)))
+returns c =
+    let b = c .before .before .before .before in
+    let a = b .args in
+    let n = c .before .before .before .count .ensures in
+    let u = c .before .close-gap in
+    rw (c .settle .ensures, n) (removed (a .side) (a .t1) (size-at b) (a .at) (b .pre .0) (b .pre .1) (u .last .0) (rw n at (u .ensures)))
 
 pub remove-spec : {M : Type 1} → statement M
 remove-spec =

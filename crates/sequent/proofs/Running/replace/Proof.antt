@@ -1,5 +1,3 @@
-use Prim.Native.Nat.{_-_}
-use borrow.Author.Needs.{needs}
 use borrow.Author.Needs.{needs}
 use Rattle.sequent.proofs.Running.replace.Statement.{statement}
 use Rattle.sequent.proofs.Running.replace.Tie as tie
