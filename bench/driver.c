@@ -1,7 +1,7 @@
 // Checks that all agree, then times them in turn and writes the table and the plot into the directory given.
 #include "bench.h"
-#include "library.h"
 #include "lisp.h"
+#include <gekunday.h>
 #include <stdlib.h>
 #include <string.h>
 #include <time.h>
@@ -102,7 +102,7 @@ static void check_cases(const results *r)
         { { { 0x10, 0, 0x20, 1, 5, 3, 5, 1, 0, 4, 1, 1, 1, 2, 5, 1, 2, 1, 3, 5, 3, 1, 0, 1, 1, 1, 3 }, 27 }, 7, SPENT,
           { 0, 0, 7, 1 } },
         { { { 0x10, 1, 3, 1, 0, 1, 1, 0x20, 1, 3, 1, 0, 1, 1 }, 14 }, BUDGET, 0, { 0, 0, 2, 2 } },
-        { { { 0x10, 1, 1, 32, 0x20, 0 }, 6 }, BUDGET, NO_SUCH_LAMP, { 3, 0, 0, 0 } },
+        { { { 0x10, 1, 1, 32, 0x20, 0 }, 6 }, BUDGET, NO_SUCH_LETTER, { 3, 0, 0, 0 } },
         { { { 0x10, 17, 0x20, 0 }, 4 }, BUDGET, MANY_FORMULAS, { 1, 0, 0, 0 } },
         { { { 0 }, 0 }, BUDGET, CUT, { 0, 0, 0, 0 } },
     };

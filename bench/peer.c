@@ -21,7 +21,7 @@ typedef struct {
     bool refuted;
 } run;
 
-// By connective and side: a premise holds one formula more than the sequent reduced.
+// By connective and side: by how many formulas a premise grows at most.
 static const uint8_t grows[7][2] = { [AND] = { 1, 0 }, [OR] = { 0, 1 }, [IMPLIES] = { 0, 1 }, [EQUIV] = { 1, 1 } };
 
 static inline void mark(const run *r, sequent *s, int side, uint8_t f)

@@ -7,9 +7,9 @@
 extern "C" {
 #endif
 
-enum { MOST_BYTES = 212, MOST_CONNECTIVES = 48, MOST_A_SIDE = 16, MOST_FORMULAS = 80, LAMPS = 32 };
+enum { MOST_BYTES = 212, MOST_CONNECTIVES = 48, MOST_A_SIDE = 16, MOST_FORMULAS = 80, LETTERS = 32 };
 enum { LEFT_SIDE = 0x10, RIGHT_SIDE = 0x20, LETTER = 1, NOT = 2, AND = 3, OR = 4, IMPLIES = 5, EQUIV = 6 };
-enum { TOO_LONG = 1, CUT, WRONG_COMMAND, MANY_FORMULAS, NO_SUCH_LAMP, MANY_CONNECTIVES, LEFT_OVER, FULL, SPENT };
+enum { TOO_LONG = 1, CUT, WRONG_COMMAND, MANY_FORMULAS, NO_SUCH_LETTER, MANY_CONNECTIVES, LEFT_OVER, FULL, SPENT };
 
 // A question as read: where its commands and the formulas of each side start.
 typedef struct {

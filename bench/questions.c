@@ -5,7 +5,7 @@
 #include <string.h>
 
 typedef struct formula {
-    uint8_t connective, lamp; // LETTER, or a connective
+    uint8_t connective, letter; // a connective, or LETTER and which
     const struct formula *f, *g;
 } formula;
 
@@ -34,11 +34,11 @@ static uint64_t draw(void)
 static int below(int n) { return draw() % n; }
 static int between(int a, int b) { return a + below(b - a + 1); }
 
-static const formula *make(int connective, int lamp, const formula *f, const formula *g)
+static const formula *make(int connective, int letter, const formula *f, const formula *g)
 {
     if (used == 4096)
         abort();
-    arena[used] = (formula){ connective, lamp, f, g };
+    arena[used] = (formula){ connective, letter, f, g };
     return &arena[used++];
 }
 
@@ -109,7 +109,7 @@ static void add(sequent *s, int side, const formula *f)
         s->side[side][s->count[side]++] = f;
 }
 
-// A rule of the wall: one or two conditions imply, or are equivalent to, one or two lamps.
+// A rule: one or two literals imply, or are equivalent to, one or two literals.
 static const formula *rule(int letters)
 {
     const formula *if_ = below(2) ? literal(letters) : two_literals(below(4) ? AND : OR, letters);
@@ -164,7 +164,7 @@ static int letters_of(const formula *f, uint32_t *seen)
     if (!f)
         return 0;
     if (f->connective == LETTER)
-        *seen |= 1u << f->lamp;
+        *seen |= 1u << f->letter;
     letters_of(f->f, seen);
     letters_of(f->g, seen);
     return __builtin_popcount(*seen);
@@ -174,7 +174,7 @@ static int put(uint8_t *bytes, int at, const formula *f)
 {
     bytes[at++] = f->connective;
     if (f->connective == LETTER) {
-        bytes[at++] = f->lamp;
+        bytes[at++] = f->letter;
         return at;
     }
     at = put(bytes, at, f->f);
@@ -287,12 +287,12 @@ question_set long_set(void)
         sequent s = { 0 };
         used = 0;
         for (int k = 0; k < 2 * MOST_A_SIDE; k++)
-            s.side[k / MOST_A_SIDE][k % MOST_A_SIDE] = letter(LAMPS);
+            s.side[k / MOST_A_SIDE][k % MOST_A_SIDE] = letter(LETTERS);
         s.count[0] = s.count[1] = MOST_A_SIDE;
         for (int k = 0; k < MOST_CONNECTIVES; k++) {
             const formula **side = s.side[below(2)], **at = side + below(MOST_A_SIDE);
             int connective = between(AND, EQUIV);
-            const formula *more = letter(LAMPS);
+            const formula *more = letter(LETTERS);
             *at = below(2) ? two(connective, *at, more) : two(connective, more, *at);
         }
         encode(&s, &set.questions[i]);

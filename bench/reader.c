@@ -46,8 +46,8 @@ static int read_side(cursor *c, int side, reading *r)
         if (command == LETTER) {
             if (c->at + 1 == c->length)
                 return refuse(c, CUT, c->length);
-            if (c->bytes[c->at + 1] >= LAMPS)
-                return refuse(c, NO_SUCH_LAMP, c->at + 1);
+            if (c->bytes[c->at + 1] >= LETTERS)
+                return refuse(c, NO_SUCH_LETTER, c->at + 1);
             c->at += 2;
             due--;
         } else if (command >= NOT && command <= EQUIV) {
@@ -107,8 +107,8 @@ uint32_t peer_scan(const uint8_t *question, size_t length, uint64_t out[2])
             if (command == LETTER) {
                 if (at == length)
                     return stop(out, CUT, length);
-                if (question[at++] >= LAMPS)
-                    return stop(out, NO_SUCH_LAMP, at - 1);
+                if (question[at++] >= LETTERS)
+                    return stop(out, NO_SUCH_LETTER, at - 1);
                 due--;
             } else if (command >= NOT && command <= EQUIV) {
                 if (connectives++ == MOST_CONNECTIVES)

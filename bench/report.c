@@ -35,14 +35,24 @@ static void write_set(FILE *file, const results *r, int s)
     fprintf(file, "\n");
 }
 
-// The headline is the faster build of peer_value.
-static double headline(const results *r, int s)
+// The library's time over that of a peer's faster build.
+static double ratio(const results *r, int s, const char *peer)
 {
     double least = INFINITY;
     for (int k = 0; k < r->count; k++)
-        if (!strncmp(r->implementations[k].name, "peer_value", 10))
+        if (!strncmp(r->implementations[k].name, peer, strlen(peer)))
             least = fmin(least, r->implementations[k].best[s]);
     return r->implementations[0].best[s] / least;
+}
+
+static void write_headline(FILE *file, const results *r)
+{
+    static const char *const peers[] = { "peer_value", "peer_best", "peer_sets" };
+    fprintf(file, "Against the faster build of each C peer:\n\n");
+    for (int i = 0; i < 3; i++)
+        fprintf(file, "- %s: **%.2f** on editor-size questions, **%.2f** near the limits\n", peers[i],
+                ratio(r, 0, peers[i]), ratio(r, 1, peers[i]));
+    fprintf(file, "\n");
 }
 
 static void write_readings(FILE *file, const results *r)
@@ -64,8 +74,7 @@ void write_table(FILE *file, const results *r)
 {
     fprintf(file, "# Time of a decision\n\n");
     fprintf(file, "Best of %d rounds (and the median); below 1.00 gekunday is the faster.\n\n", r->rounds);
-    fprintf(file, "**Against the faster peer_value: %.2f on editor-size questions, %.2f near the limits.**\n\n",
-            headline(r, 0), headline(r, 1));
+    write_headline(file, r);
     for (int s = 0; s < SETS; s++)
         write_set(file, r, s);
     write_readings(file, r);
@@ -145,11 +154,11 @@ static void write_legend(FILE *file, double y)
 
 void write_plot(FILE *file, const results *r)
 {
-    double panel = r->count * ROW + 2 * GAP, height = HEAD + SETS * panel + 16;
+    double chart = r->count * ROW + 2 * GAP, height = HEAD + SETS * chart + 16;
     fprintf(file, "<svg xmlns='http://www.w3.org/2000/svg' viewBox='0 0 %d %.0f' width='%d' height='%.0f'>\n", WIDTH,
             height, WIDTH, height);
     fprintf(file, "<style>text{font-family:'DejaVu Sans',Helvetica,Arial,sans-serif;font-size:12px;fill:#222}"
-                  ".title{font-size:17px;font-weight:bold}.panel{font-size:14px;font-weight:bold}"
+                  ".title{font-size:17px;font-weight:bold}.chart{font-size:14px;font-weight:bold}"
                   ".label{text-anchor:end}.first{font-weight:bold}.tick{text-anchor:middle;fill:#666;font-size:11px}"
                   ".value{font-size:11px;paint-order:stroke;stroke:#fff;stroke-width:4px}"
                   ".key{fill:#444}.grid{stroke:#ccc}.fine{stroke:#eee}"
@@ -158,9 +167,9 @@ void write_plot(FILE *file, const results *r)
     fprintf(file, "<text class='title' x='20' y='30'>Time to decide one question (log scale, shorter is faster)</text>\n");
     write_legend(file, 54);
     for (int s = 0; s < SETS; s++) {
-        double top = HEAD + s * panel + GAP - 4;
+        double top = HEAD + s * chart + GAP - 4;
         scale c = scale_of(r, s);
-        fprintf(file, "<text class='panel' x='%d' y='%.1f'>%s</text>\n", LABELS, top - 8, r->sets[s].title);
+        fprintf(file, "<text class='chart' x='%d' y='%.1f'>%s</text>\n", LABELS, top - 8, r->sets[s].title);
         write_axis(file, c, top, top + r->count * ROW);
         write_bars(file, r, s, c, top);
     }

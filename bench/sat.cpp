@@ -8,7 +8,7 @@ struct encoder {
     CaDiCaL::Solver solver;
     const uint8_t *question;
     const uint8_t *second;
-    int next = LAMPS + 1;
+    int next = LETTERS + 1;
 
     void clause(int a, int b = 0, int c = 0)
     {

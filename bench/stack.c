@@ -1,7 +1,7 @@
 // How deep the library's calls go: on a thread whose stack is painted below the caller's frame.
 #define _GNU_SOURCE
 #include "bench.h"
-#include "library.h"
+#include <gekunday.h>
 #include <pthread.h>
 #include <stdlib.h>
 #include <string.h>
