@@ -1,10 +1,12 @@
 #!/usr/bin/env bash
-# Installs the header, the archive and a pkg-config file into a prefix:
+# Installs the header, the archive and a pkg-config file into a prefix, so that a program compiles with either line:
 #
 #     ./install.sh PREFIX
-#     cc $(PKG_CONFIG_PATH=PREFIX/lib/pkgconfig pkg-config --cflags --libs gekunday) ...
+#     cc editor.c $(PKG_CONFIG_PATH=PREFIX/lib/pkgconfig pkg-config --cflags --libs gekunday) -o editor
+#     cc editor.c -IPREFIX/include -LPREFIX/lib -lgekunday -o editor
 #
-# The archive is target/staticlib/libgekunday.a; where it is missing, `rt staticlib gekunday` proves and builds it.
+# The source comes before the archive: the linker takes from an archive only what is missing when it comes to it.
+# The archive is taken from GEKUNDAY_LIB_DIR, by default target/staticlib, where it is built if it is missing.
 # DESTDIR is honoured: files go under $DESTDIR$PREFIX, and the pkg-config file names PREFIX.
 set -euo pipefail
 
@@ -21,8 +23,8 @@ esac
 prefix=${prefix%/}
 into=${DESTDIR:-}$prefix
 
-archive=$root/target/staticlib/libgekunday.a
-if [ ! -f "$archive" ]; then
+archive=${GEKUNDAY_LIB_DIR:-$root/target/staticlib}/libgekunday.a
+if [ -z "${GEKUNDAY_LIB_DIR:-}" ] && [ ! -f "$archive" ]; then
     (cd "$root" && rt staticlib gekunday)
 fi
 

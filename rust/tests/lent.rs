@@ -1,5 +1,5 @@
 //! Lent bytes at the edge of memory, and lengths over 32 bits. (That a refused call leaves each lent byte alone is
-//! watched at every call of every test: see `common/calls.rs`.)
+//! watched where the other tests call the library: see `common/calls.rs`.)
 #![cfg(all(target_os = "linux", target_pointer_width = "64"))]
 
 mod common;
