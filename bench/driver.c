@@ -81,7 +81,7 @@ static void agree(const implementation *m, const question *q, uint64_t budget, u
         disagree(m->name, q, budget, number, out, due, due_out);
 }
 
-// Some of document 01's cases: they hold the peers to the paper.
+// Holds the peers to the paper by some of document 01's cases.
 static void check_cases(const results *r)
 {
     static const struct {

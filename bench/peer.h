@@ -22,7 +22,7 @@ typedef struct {
 // Document 01's reader. The answer is the refusal's number.
 uint32_t peer_read(const uint8_t *question, size_t length, reading *r);
 
-// The same check and nothing kept, for the reading benchmark.
+// Document 01's reader with nothing kept, for the reading benchmark.
 uint32_t peer_scan(const uint8_t *question, size_t length, uint64_t out[2]);
 
 // The start of the second part of each connective with two parts.

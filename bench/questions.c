@@ -89,7 +89,7 @@ static const formula *rewritten(const formula *x)
     return way == 1 ? two(x->connective, f, g) : two(x->connective, g, f);
 }
 
-// The same with one letter or connective changed.
+// A formula with one letter or connective changed.
 static const formula *damaged(const formula *x, int letters)
 {
     if (x->connective == LETTER)

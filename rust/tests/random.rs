@@ -91,7 +91,7 @@ fn the_largest_width() {
     assert_eq!(size.reductions_bound(), 48 << 48);
     assert_eq!(size.derivation_bound(), 98 << 48);
 
-    // The same width in one formula, on either side.
+    // One formula of that width, on either side.
     let one = [&[6; 48][..], &[1, 0].repeat(49)].concat();
     for question in [[&[0x10, 1][..], &one, &[0x20, 0]].concat(), [&[0x10, 0, 0x20, 1][..], &one].concat()] {
         assert_eq!(common::calls::width(&question), (0, [1 << 48, 48]));

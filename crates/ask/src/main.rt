@@ -9,7 +9,7 @@ ghost use Rattle.calculus.specs.Bytes.{question};
 ghost use Rattle.calculus.specs.Derivation.{derivation};
 ghost use Rattle.calculus.specs.Reading.{reading, accepted};
 ghost use Rattle.calculus.specs.Tree.{verdict};
-ghost use Rattle.print.specs.Text.{Put};
+ghost use Rattle.print.specs.Text.{Printed};
 ghost use Rattle.ask.specs.Output.{INPUT, BUDGET, BUFFER, TEXT, derivationLine, verdictText, askText};
 
 // The bytes read: those of the longest question, and one more.
@@ -29,7 +29,7 @@ fn put_derivation(q: &[u8], out: &mut [u8], at: usize) -> usize
     requires { ⌜ at + 3 * BUFFER + 9 ≤ length (now out) ⌝ }
     ensures short { λ r. ⌜ r ≤ at + 3 * BUFFER + 9 ⌝ }
     ensures text { λ r. ⌜
-        Put (now (out .entry)) at
+        Printed (now (out .entry)) at
         (derivationLine (derivation (question (now (q .entry)))))
         r (now (out .exit)) ⌝ }
 {
@@ -49,7 +49,7 @@ fn put_verdict(q: &[u8], v: Verdict, w: u64, out: &mut [u8]) -> usize
     requires { ⌜ (reading (now q) ≡ accepted) × (v ≡ verdict BUDGET (question (now q))) × (TEXT ≤ length (now out)) ⌝ }
     ensures short { λ r. ⌜ r ≤ TEXT ⌝ }
     ensures text { λ r. ⌜
-        Put (now (out .entry)) 0
+        Printed (now (out .entry)) 0
         (verdictText (v .kind) (v .reductions) (v .closings) w (derivation (question (now (q .entry)))))
         r (now (out .exit)) ⌝ }
 {

@@ -1,7 +1,7 @@
 -- What bytes spell: formulas and sequents come back from their encoding.
 -- Assumes nothing.
 use mathlib.Core.Path.{_≡_, refl, sym, ap, _∙_}
-use mathlib.Core.Option.{none, some}
+use mathlib.Core.Option.{some}
 use mathlib.Core.List.{List, [], _∷_, _++_, append-assoc, append-nil}
 use Prim.Native.Nat.{ℕ, _+_, _*_, _≤_}
 use native.Mathlib.Omega.{arith}
@@ -14,7 +14,7 @@ use Rattle.calculus.specs.declared.Side.the-variants.{Left, Right}
 use Rattle.calculus.specs.Fold.{fold, SUM}
 use Rattle.calculus.specs.Limits.{LONGEST}
 use Rattle.calculus.specs.Syntax.{AND, OR, IMPLIES, EQUIV, Connective, NOT, two, Formula, letter, neg, join, Sequent, connectives}
-use Rattle.calculus.specs.Bytes.{Command, SIDE, LETTER, CONNECTIVE, code, commands, command, encode, encodeAll, encodeSide, encodeSequent, attach, spell, formulas, bytes, bytesAll, question, Within}
+use Rattle.calculus.specs.Bytes.{Command, SIDE, LETTER, CONNECTIVE, code, commands, command, encode, encodeAll, encodeSide, encodeSequent, attach, formulas, bytes, bytesAll, question, Within}
 use Rattle.calculus.proofs.Folds.{found}
 
 pub command-code : (k : Command) → command (code k) ≡ some k

@@ -1,9 +1,9 @@
 -- "Numbers and places returned", row by row: what the definitions reply to a smallest example, and what document 01 prints.
--- FULL has no row: no accepted question gives it (`Bounds.never-full`).
 use mathlib.Core.List.{List, [], _∷_, _++_}
 use Prim.Native.Nat.{ℕ}
 use lib.ListN.{replicate}
-use Rattle.calculus.specs.Reply.{Reply, decideReply, derive, checkReply}
+use Rattle.calculus.specs.declared.Kind.the-variants.{Full}
+use Rattle.calculus.specs.Reply.{Reply, verdictReply, decideReply, derive, checkReply}
 use Rattle.calculus.specs.Starred.{large, failing}
 
 pub record Row : Type 0 where
@@ -46,6 +46,8 @@ numbers =
     ∷ row (read (0x10 ∷ 0x01 ∷ replicate 49 0x02)) 6 (50 ∷ [])
     -- first such byte: 7 LEFT OVER, bytes follow the last formula
     ∷ row (read (empty ++ (0x00 ∷ []))) 7 (4 ∷ [])
+    -- both counts: 8 FULL. No question gives it (`Bounds.never-full`), so this is the reply to a verdict.
+    ∷ row (verdictReply Full 3 2) 8 (3 ∷ 2 ∷ [])
     -- both counts: 9 SPENT, the reductions made equal the budget (case 10)
     ∷ row (decideReply failing 7) 9 (7 ∷ 1 ∷ [])
     -- state, both counts: 10 NOT PROVED, a derivation is asked of a refuted question (case 9)

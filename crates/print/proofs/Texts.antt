@@ -9,7 +9,7 @@ use native.Mathlib.Omega.{arith}
 use lib.ListN.{length, drop, getD, set, length-append}
 use lib.Seq.{drop-cons, sets, sets-eq}
 use Rattle.io.specs.Digits.{glyph, digits, Fewest}
-use Rattle.print.specs.Text.{blank, spaced, leading, decimalBy, decimal, spelled, hexadecimal, Put}
+use Rattle.print.specs.Text.{blank, spaced, leading, decimalBy, decimal, spelled, hexadecimal, Printed}
 
 sets-append : (l : List ℕ) (i : ℕ) (xs ys : List ℕ) → sets (sets l i xs) (i + length xs) ys ≡ sets l i (xs ++ ys)
 sets-append l i [] ys = let z : i + 0 ≡ i = omega arith in ap (λ (k : ℕ). sets l k ys) z
@@ -19,24 +19,24 @@ sets-append l i (x ∷ xs) ys =
 
 -- ---- one text behind another
 
-pub none : (old : List ℕ) (at : ℕ) → Put old at [] at old
+pub none : (old : List ℕ) (at : ℕ) → Printed old at [] at old
 none old at = record { place = omega arith; bytes = refl }
 
-one : (old : List ℕ) (at b : ℕ) → Put old at (b ∷ []) (at + 1) (set old at b)
+one : (old : List ℕ) (at b : ℕ) → Printed old at (b ∷ []) (at + 1) (set old at b)
 one old at b = record { place = refl; bytes = refl }
 
-pub then : {a b c xs ys : List ℕ} {at r s : ℕ} → Put a at xs r b → Put b r ys s c → Put a at (xs ++ ys) s c
+pub then : {a b c xs ys : List ℕ} {at r s : ℕ} → Printed a at xs r b → Printed b r ys s c → Printed a at (xs ++ ys) s c
 then {a} {b} {c} {xs} {ys} {at} {r} {s} p q =
     record {
       place = omega (arith, p .place, q .place, length-append xs ys);
       bytes = q .bytes ∙ ap (λ (l : List ℕ). sets l r ys) (p .bytes) ∙ ap (λ (k : ℕ). sets (sets a at xs) k ys) (p .place) ∙ sets-append a at xs ys;
     }
 
-pub same-text : {old new xs ys : List ℕ} {at r : ℕ} → xs ≡ ys → Put old at xs r new → Put old at ys r new
-same-text {old} {new} {xs} {ys} {at} {r} e p = subst (λ (l : List ℕ). Put old at l r new) e p
+pub same-text : {old new xs ys : List ℕ} {at r : ℕ} → xs ≡ ys → Printed old at xs r new → Printed old at ys r new
+same-text {old} {new} {xs} {ys} {at} {r} e p = subst (λ (l : List ℕ). Printed old at l r new) e p
 
 -- a text at the start of a buffer
-pub whole : {old new xs : List ℕ} {r : ℕ} → Put old 0 xs r new → r ≤ length old → (r ≡ length xs) × (new ≡ xs ++ drop r old)
+pub whole : {old new xs : List ℕ} {r : ℕ} → Printed old 0 xs r new → r ≤ length old → (r ≡ length xs) × (new ≡ xs ++ drop r old)
 whole {old} {new} {xs} {r} p fits =
     let n : length xs ≡ r = omega (arith, p .place) in
     let z : 0 + length xs ≡ r = omega arith in
@@ -51,14 +51,14 @@ pub record Unfinished (old : List ℕ) (at : ℕ) (xs : List ℕ) (r : ℕ) (res
 pub due-all : (old : List ℕ) (at : ℕ) (xs : List ℕ) → Unfinished old at xs at xs old
 due-all old at xs = record { place = refl; bytes = refl }
 
-pub due-less : {old b c xs ys rest : List ℕ} {at r s : ℕ} → Unfinished old at xs r (ys ++ rest) b → Put b r ys s c → Unfinished old at xs s rest c
+pub due-less : {old b c xs ys rest : List ℕ} {at r s : ℕ} → Unfinished old at xs r (ys ++ rest) b → Printed b r ys s c → Unfinished old at xs s rest c
 due-less {old} {b} {c} {xs} {ys} {rest} {at} {r} {s} d p =
     record {
       place = omega (arith, d .place, p .place, length-append ys rest);
       bytes = ap (λ (l : List ℕ). sets l s rest) (p .bytes) ∙ ap (λ (k : ℕ). sets (sets b r ys) k rest) (p .place) ∙ sets-append b r ys rest ∙ d .bytes;
     }
 
-pub due-none : {old new xs : List ℕ} {at r : ℕ} → Unfinished old at xs r [] new → Put old at xs r new
+pub due-none : {old new xs : List ℕ} {at r : ℕ} → Unfinished old at xs r [] new → Printed old at xs r new
 due-none d = record { place = omega (arith, d .place); bytes = d .bytes }
 
 -- ---- what is due next, and first

@@ -56,6 +56,6 @@ hexadecimal (b ∷ bs) = spelled b ++ spaced spelled bs
 -- ---- bytes in a buffer
 
 -- xs stands from a place on, the rest keeps its content, and r is the place behind xs
-pub record Put (old : List ℕ) (at : ℕ) (xs : List ℕ) (r : ℕ) (new : List ℕ) : Type 0 where
+pub record Printed (old : List ℕ) (at : ℕ) (xs : List ℕ) (r : ℕ) (new : List ℕ) : Type 0 where
   pub place : r ≡ at + length xs
   pub bytes : new ≡ sets old at xs

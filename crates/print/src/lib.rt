@@ -6,12 +6,12 @@ ghost use Prim.Native.Nat.{_+_, _*_, _≤_, _<_};
 ghost use lib.ListN.{length};
 ghost use Rattle.io.specs.Digits.{glyph};
 ghost use Rattle.question.specs.Answers.{numberOf, placeOf};
-ghost use Rattle.print.specs.Text.{ascii, blank, newline, decimal, spaced, line, spelled, hexadecimal, Put};
+ghost use Rattle.print.specs.Text.{ascii, blank, newline, decimal, spaced, line, spelled, hexadecimal, Printed};
 
 // A word from a place on; answers the place behind it.
 pub fn put_word(word: &[u8], out: &mut [u8], at: usize) -> usize
     requires { ⌜ at + length (now word) ≤ length (now out) ⌝ }
-    ensures { λ r. ⌜ Put (now (out .entry)) at (now (word .entry)) r (now (out .exit)) ⌝ }
+    ensures { λ r. ⌜ Printed (now (out .entry)) at (now (word .entry)) r (now (out .exit)) ⌝ }
 {
     let mut i = 0;
     while i < word.len() {
@@ -25,7 +25,7 @@ pub fn put_word(word: &[u8], out: &mut [u8], at: usize) -> usize
 pub fn put_number(n: u64, out: &mut [u8], at: usize) -> usize
     requires { ⌜ at + 21 ≤ length (now out) ⌝ }
     ensures short { λ r. ⌜ r ≤ at + 21 ⌝ }
-    ensures text { λ r. ⌜ Put (now (out .entry)) at (blank ++ decimal n) r (now (out .exit)) ⌝ }
+    ensures text { λ r. ⌜ Printed (now (out .entry)) at (blank ++ decimal n) r (now (out .exit)) ⌝ }
 {
     let mut digits = [0u8; 20];
     let k = io::decimal(n, &mut digits);
@@ -37,7 +37,7 @@ pub fn put_number(n: u64, out: &mut [u8], at: usize) -> usize
 fn put_numbers(numbers: &[u64], out: &mut [u8], at: usize) -> usize
     requires { ⌜ at + 21 * length (now numbers) ≤ length (now out) ⌝ }
     ensures short { λ r. ⌜ r ≤ at + 21 * length (now (numbers .entry)) ⌝ }
-    ensures text { λ r. ⌜ Put (now (out .entry)) at (spaced decimal (now (numbers .entry))) r (now (out .exit)) ⌝ }
+    ensures text { λ r. ⌜ Printed (now (out .entry)) at (spaced decimal (now (numbers .entry))) r (now (out .exit)) ⌝ }
 {
     let mut end = at;
     let mut i = 0;
@@ -52,7 +52,7 @@ fn put_numbers(numbers: &[u64], out: &mut [u8], at: usize) -> usize
 pub fn put_line(word: &[u8], numbers: &[u64], out: &mut [u8], at: usize) -> usize
     requires { ⌜ at + length (now word) + 21 * length (now numbers) + 1 ≤ length (now out) ⌝ }
     ensures short { λ r. ⌜ r ≤ at + length (now (word .entry)) + 21 * length (now (numbers .entry)) + 1 ⌝ }
-    ensures text { λ r. ⌜ Put (now (out .entry)) at (line (now (word .entry)) (now (numbers .entry))) r (now (out .exit)) ⌝ }
+    ensures text { λ r. ⌜ Printed (now (out .entry)) at (line (now (word .entry)) (now (numbers .entry))) r (now (out .exit)) ⌝ }
 {
     let first = put_word(word, out, at);
     let last = put_numbers(numbers, out, first);
@@ -70,7 +70,7 @@ fn hex_digit(n: u8) -> u8
 // A byte's two digits.
 fn put_byte(b: u8, out: &mut [u8], at: usize) -> usize
     requires { ⌜ at + 2 ≤ length (now out) ⌝ }
-    ensures { λ r. ⌜ Put (now (out .entry)) at (spelled b) r (now (out .exit)) ⌝ }
+    ensures { λ r. ⌜ Printed (now (out .entry)) at (spelled b) r (now (out .exit)) ⌝ }
 {
     out[at] = hex_digit(b / 16);
     out[at + 1] = hex_digit(b % 16);
@@ -80,7 +80,7 @@ fn put_byte(b: u8, out: &mut [u8], at: usize) -> usize
 // A blank and a byte's two digits.
 fn put_next(b: u8, out: &mut [u8], at: usize) -> usize
     requires { ⌜ at + 3 ≤ length (now out) ⌝ }
-    ensures { λ r. ⌜ Put (now (out .entry)) at (blank ++ spelled b) r (now (out .exit)) ⌝ }
+    ensures { λ r. ⌜ Printed (now (out .entry)) at (blank ++ spelled b) r (now (out .exit)) ⌝ }
 {
     let next = put_word(b" ", out, at);
     put_byte(b, out, next)
@@ -90,7 +90,7 @@ fn put_next(b: u8, out: &mut [u8], at: usize) -> usize
 pub fn put_hexadecimal(bytes: &[u8], out: &mut [u8], at: usize) -> usize
     requires { ⌜ at + 3 * length (now bytes) ≤ length (now out) ⌝ }
     ensures short { λ r. ⌜ r ≤ at + 3 * length (now (bytes .entry)) ⌝ }
-    ensures text { λ r. ⌜ Put (now (out .entry)) at (hexadecimal (now (bytes .entry))) r (now (out .exit)) ⌝ }
+    ensures text { λ r. ⌜ Printed (now (out .entry)) at (hexadecimal (now (bytes .entry))) r (now (out .exit)) ⌝ }
 {
     if bytes.len() == 0 {
         return at;
@@ -108,7 +108,7 @@ pub fn put_hexadecimal(bytes: &[u8], out: &mut [u8], at: usize) -> usize
 pub fn put_bytes(bytes: &[u8], out: &mut [u8], at: usize) -> usize
     requires { ⌜ at + 3 * length (now bytes) + 1 ≤ length (now out) ⌝ }
     ensures short { λ r. ⌜ r ≤ at + 3 * length (now (bytes .entry)) + 1 ⌝ }
-    ensures text { λ r. ⌜ Put (now (out .entry)) at (hexadecimal (now (bytes .entry)) ++ newline) r (now (out .exit)) ⌝ }
+    ensures text { λ r. ⌜ Printed (now (out .entry)) at (hexadecimal (now (bytes .entry)) ++ newline) r (now (out .exit)) ⌝ }
 {
     let end = put_hexadecimal(bytes, out, at);
     put_word(b"\n", out, end)
@@ -119,7 +119,7 @@ pub fn put_refused(refusal: Refusal, out: &mut [u8]) -> usize
     requires { ⌜ 50 ≤ length (now out) ⌝ }
     ensures short { λ r. ⌜ r ≤ 50 ⌝ }
     ensures text { λ r. ⌜
-        Put (now (out .entry)) 0 (line (ascii "refused") (numberOf refusal ∷ placeOf refusal ∷ [])) r (now (out .exit)) ⌝ }
+        Printed (now (out .entry)) 0 (line (ascii "refused") (numberOf refusal ∷ placeOf refusal ∷ [])) r (now (out .exit)) ⌝ }
 {
     let numbers = [refusal.number() as u64, refusal.place() as u64];
     put_line(b"refused", &numbers, out, 0)

@@ -58,7 +58,7 @@ abbrev pub done : List ℕ → Cursor → Bool
 done q k = choose (leb (length q) (k .at)) (choose (eqb (k .due) 0) (eqb (k .sides) 0) false) false
 
 -- a cursor in a question that is not too long; no formula is due before the first side's command
-pub record Within (q : List ℕ) (k : Cursor) : Type 0 where
+pub record Standing (q : List ℕ) (k : Cursor) : Type 0 where
   pub short : length q ≤ LONGEST
   pub inside : k .at ≤ length q
   pub room : k .due ≤ FORMULAS + k .connectives
@@ -68,7 +68,7 @@ pub record Within (q : List ℕ) (k : Cursor) : Type 0 where
 
 -- a next cursor is one, and not before a place
 abbrev pub Onwards : List ℕ → ℕ → Step → Type 0
-Onwards q at (Next k) = Within q k × (at ≤ k .at)
+Onwards q at (Next k) = Standing q k × (at ≤ k .at)
 Onwards q at (Stop r) = Unit {0}
 
 -- the reading from a cursor on

@@ -14,7 +14,7 @@ ghost use Rattle.calculus.specs.Bytes.{SIDE, LETTER, code, formulas, bytesAll, 
 ghost use Rattle.calculus.specs.Reading.{accepted, reading};
 ghost use Rattle.calculus.specs.Reply.{formulaPart, formulaBytes};
 ghost use Rattle.question.specs.Answers.{numberOf, placeOf, readingOf};
-ghost use Rattle.question.specs.Answers.{expectedOf, done, Within, Onwards, readFrom, steps};
+ghost use Rattle.question.specs.Answers.{expectedOf, done, Standing, Onwards, readFrom, steps};
 ghost use Rattle.question.specs.Positions.{Well, endOf, commandLength, dueAfter, partBytes, partAt};
 
 // The limits of document 01.
@@ -119,7 +119,7 @@ impl Cursor {
     // The letter at the cursor, with its operand.
     fn letter(self, q: &[u8]) -> Step
         requires { ⌜
-            Within (now q) self
+            Standing (now q) self
             × (self .at < length (now q))
             × (getD (now q) (self .at) 0 ≡ code LETTER)
             × (1 ≤ self .due)
@@ -152,7 +152,7 @@ impl Cursor {
             × (self .sides ≤ 1)
             × (2 ≤ b)
             × (b ≤ 6) ⌝ }
-        ensures { λ r. ⌜ ((q : List ℕ) → Within q self → self .at < length q → getD q (self .at) 0 ≡ b
+        ensures { λ r. ⌜ ((q : List ℕ) → Standing q self → self .at < length q → getD q (self .at) 0 ≡ b
             → (steps q r ≡ readFrom q self) × Onwards q (self .at + 1) r) ⌝ }
     {
         let behind = self.at + 1;
@@ -170,7 +170,7 @@ impl Cursor {
     // The byte b at the cursor where a side's command is expected, with its count.
     fn head(self, q: &[u8], b: u8, side: Side) -> Step
         requires { ⌜
-            Within (now q) self
+            Standing (now q) self
             × (self .at < length (now q))
             × (getD (now q) (self .at) 0 ≡ b)
             × (expectedOf self ≡ Expected.Head side) ⌝ }
@@ -212,7 +212,7 @@ impl Cursor {
 
     // Goes on by one command with its operand: what is expected and the byte give a refusal or the next cursor.
     fn next(self, q: &[u8]) -> Step
-        requires { ⌜ Within (now q) self × (done (now q) self ≡ false) ⌝ }
+        requires { ⌜ Standing (now q) self × (done (now q) self ≡ false) ⌝ }
         ensures { λ r. ⌜
             (steps (now (q .entry)) r ≡ readFrom (now (q .entry)) self)
             × Onwards (now (q .entry)) (self .at + 1) r ⌝ }

@@ -48,7 +48,7 @@ secondStart (two b) q p = endOf q (p + 1)
 abbrev pub reductionAt : List ℕ → ℕ → Side → Reduction
 reductionAt q p t = record { rule = ruleOf (compoundAt q p .connective) t; f = p + 1; g = secondStart (compoundAt q p .connective) q p }
 
--- r is that, and the parts stand there
+-- r is how the compound at p reduces, and its parts stand where r has them
 pub record Reduces (q : List ℕ) (p : ℕ) (t : Side) (r : Reduction) : Type 0 where
   pub exact : r ≡ reductionAt q p t
   pub first-stands : Stands q (r .f)

@@ -157,7 +157,7 @@ pub fn theorem(rng: &mut Prng, most: usize) -> Vec<u8> {
         rewritten(rng, &given, &mut follows);
         let (mut left, mut right) = (vec![given], vec![follows]);
         if rng.chance(20) {
-            // The same as one formula on the right.
+            // Both as one formula on the right.
             right = vec![[&[rng.pick(&[IMPLIES, EQUIV])], left[0].as_slice(), right[0].as_slice()].concat()];
             left = vec![];
         }

@@ -8,13 +8,13 @@ use Rattle.calculus.specs.declared.Side.the-variants.{Left}
 use Rattle.calculus.specs.declared.Expected.the-variants.{Head}
 use Rattle.calculus.specs.Limits.{LONGEST}
 use Rattle.calculus.specs.Reading.{read}
-use Rattle.question.specs.Answers.{Within, readFrom}
+use Rattle.question.specs.Answers.{Standing, readFrom}
 use Rattle.question.proofs.Readers.{read-done}
 use Rattle.question.proofs.read.Statement.{statement}
 use Rattle.question.proofs.read.Tie as tie
 
 abbrev Inv-loop : tie.InvT-loop
-Inv-loop q cursor₀ cursor = Within q cursor × (readFrom q cursor ≡ read q (Head Left) 0 0)
+Inv-loop q cursor₀ cursor = Standing q cursor × (readFrom q cursor ≡ read q (Head Left) 0 0)
 
 abbrev μ-loop : tie.MeasureT-loop
 μ-loop q cursor₀ cursor = length q - cursor .at
