@@ -73,7 +73,7 @@ replaced Right p f g s =
       connectives = s .connectives;
     }
 
--- parts that change side go to its end
+-- parts that change side go to the end of the other
 abbrev pub appended : Side → Placing → ℕ → ℕ → Sets → Sets
 appended Left p f g s = replaced Left p f g s
 appended Right p f g s =

@@ -76,6 +76,15 @@ pub fn check(q: &[u8], derivation: &[u8]) -> checker::Checking
     checker::check(q, derivation)
 }
 
+// Document 01's numbers for a run that came to no verdict, and for a derivation that is not written.
+const FULL: u32 = 8;
+
+const SPENT: u32 = 9;
+
+const NOT_PROVED: u32 = 10;
+
+const NO_SPACE: u32 = 11;
+
 // A number and the words beside it.
 struct Words {
     number: u32,
@@ -122,14 +131,14 @@ fn unproved_words(v: Verdict) -> Words
     let kind = v.kind;
     match kind {
         Kind::Refuted(state) => Words {
-            number: 10,
+            number: NOT_PROVED,
             first: state as u64,
             second: v.reductions,
             third: v.closings,
         },
         Kind::Theorem => counts(0, v),
-        Kind::Spent => counts(9, v),
-        Kind::Full => counts(8, v),
+        Kind::Spent => counts(SPENT, v),
+        Kind::Full => counts(FULL, v),
     }
 }
 
@@ -151,7 +160,7 @@ fn derivation_words(a: writer::Writing) -> Words
         writer::Writing::Refused(r) => refusal_words(r),
         writer::Writing::NotProved(v) => unproved_words(v),
         writer::Writing::NoSpace(n) => Words {
-            number: 11,
+            number: NO_SPACE,
             first: n,
             second: 0,
             third: 0,
@@ -208,12 +217,12 @@ fn kind_words(kind: Kind) -> Decided
             state: state as u64,
         },
         Kind::Spent => Decided {
-            number: 9,
+            number: SPENT,
             refuted: 0,
             state: 0,
         },
         Kind::Full => Decided {
-            number: 8,
+            number: FULL,
             refuted: 0,
             state: 0,
         },

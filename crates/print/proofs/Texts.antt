@@ -62,6 +62,7 @@ pub due-none : {old new xs : List ℕ} {at r : ℕ} → Unfinished old at xs r [
 due-none d = record { place = omega (arith, d .place); bytes = d .bytes }
 
 -- ---- what is due next, and first
+
 pub spaced-next : (f : ℕ → List ℕ) (xs : List ℕ) (i : ℕ) → i < length xs → spaced f (drop i xs) ≡ (blank ++ f (getD xs i 0)) ++ spaced f (drop (i + 1) xs)
 spaced-next f xs i h = rw (add-one i) (ap (spaced f) (drop-cons xs i 0 h))
 
