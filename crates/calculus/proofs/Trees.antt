@@ -91,7 +91,7 @@ shared (k ∷ ks) ms = go (among k ms) refl (common ks ms) (shared ks ms)
     go true e none h = (self, e)
     go true e (some m) h = either-min (λ (j : ℕ). (among j (k ∷ ks) ≡ true) × (among j ms ≡ true)) k m (self, e) (more m (h .0), h .1)
 
--- and the letter that it names is the lowest
+-- the letter that `common` names is the lowest on both sides
 pub lowest : (ks ms : List ℕ) (j : ℕ) → among j ks ≡ true → among j ms ≡ true → (m : ℕ) × (common ks ms ≡ some m) × (m ≤ j)
 lowest [] ms j h e = absurd (false≢true h)
 lowest (k ∷ ks) ms j h e = or-elim (eqb j k) (among j ks) h (λ q. own (eqb-true j k q) (common ks ms)) (λ q. below (among k ms) (common ks ms) (lowest ks ms j q e))

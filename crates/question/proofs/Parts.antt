@@ -125,7 +125,7 @@ module _ (q : List ℕ) (p : ℕ) (h : Well q p) where
       go (a-letter a) = absurd (omega (arith, a .byte))
       go (a-compound x a) = (x, a)
 
--- which connective it is
+-- a connective, by its command: a binary one is 3 or more, NOT is 2
 two-range : (o : Binary) → 3 ≤ code (CONNECTIVE (two o))
 two-range AND = omega arith
 two-range OR = omega arith

@@ -126,7 +126,7 @@ opens (suc zero) (suc d) s h e = let z : _≡_ {A = ℕ} 0 1 = cc in absurd (ome
 opens (suc (suc zero)) d s h e = let i : Left ≡ s = cc in record { more = omega arith; behind = λ m. ap (λ (t : Side). after t m) i }
 opens (suc (suc (suc n))) d s h e = absurd (omega arith)
 
--- where neither is
+-- where neither a side's command nor a formula is expected
 pub end-expected : (n d : ℕ) → ((s : Side) → expectedBy n d ≡ Head s → ⊥) → ((s : Side) (m : ℕ) → expectedBy n d ≡ Formula s m → ⊥) → expectedBy n d ≡ End
 end-expected zero zero h f = refl
 end-expected zero (suc d) h f = absurd (f Right d refl)

@@ -95,13 +95,13 @@ module _ (q : List ℕ) (a : reading q ≡ accepted) where
           good = w .good;
         }
 
-    -- there is room for one more
+    -- while a side is loaded there is room for one formula more
     pub loading-room : (i : ℕ) (r : Running) → length (r .items) ≡ ROOM → i < length (on-side t (question q)) → SideLoaded q t i s r → length (view (other t) s) ≤ FORMULAS
         → r .lefts + r .rights < ROOM
     loading-room i r z h l k =
         omega (arith, few t, sides t r, l .good .room, ap length (l .held), ap length (l .aside), length-map (view t r) (formulaAt q), length-take i (on-side t (question q)), lane-length t (r .items), length-take (countOf t r) (lane t (r .items)), lane-length (other t) (r .items), length-take (countOf (other t) r) (lane (other t) (r .items)))
 
-  -- both sides
+  -- with both sides loaded, the running sequent stands for the question
   pub loaded-root : (s l r : Running) → SideLoaded q Left (length (question q .on-left)) s l → SideLoaded q Right (length (question q .on-right)) l r → sequentOf q r ≡ question q
   loaded-root s l r h k = λ i. record {
     on-left = (ap (map (formulaAt q)) (k .aside) ∙ h .held ∙ take-all (length (question q .on-left)) (question q .on-left) (omega arith)) i;
