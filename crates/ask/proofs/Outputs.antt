@@ -22,7 +22,7 @@ use Rattle.calculus.specs.Reading.{Reading, accepted, refused, reading}
 use Rattle.calculus.specs.Tree.{verdict}
 use Rattle.calculus.specs.Width.{W}
 use Rattle.calculus.specs.Derivation.{derivation}
-use Rattle.calculus.specs.Reply.{Reply, ifRead, widthReply, derive, Written as Wrote, writeOut, writeIf}
+use Rattle.calculus.specs.Reply.{Reply, ifRead, widthReply, derive, Written as Wrote, ifReadOut, writeOut}
 use Rattle.question.specs.Answers.{numberOf, placeOf}
 use Rattle.question.specs.declared.Refusal.{Refusal}
 use Rattle.width.specs.Answers.{widthOf}
@@ -67,7 +67,7 @@ proved : (q old : List ℕ) → reading q ≡ accepted → verdict BUDGET (quest
     → derive q BUDGET old ≡ writeOut Theorem (verdict BUDGET (question q) .reductions) (verdict BUDGET (question q) .closings) (derivation (question q)) old
 proved q old a t =
     let v : Verdict = verdict BUDGET (question q) in
-    ap (λ (x : Reading). writeIf x (question q) BUDGET old) a ∙ ap (λ (x : Kind). writeOut x (v .reductions) (v .closings) (derivation (question q)) old) t
+    ap (λ (x : Reading). ifReadOut x old (writeOut (v .kind) (v .reductions) (v .closings) (derivation (question q)) old)) a ∙ ap (λ (x : Kind). writeOut x (v .reductions) (v .closings) (derivation (question q)) old) t
 
 -- n bytes of a buffer hold the derivation ds, and it has its line
 pub record Shown (ds : List ℕ) (n : ℕ) (buffer : List ℕ) : Type 0 where

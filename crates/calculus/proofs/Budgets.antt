@@ -1,7 +1,7 @@
 -- What a budget makes of the tree, and that the run, step by step, gives just that.
 -- Assumes nothing.
 use mathlib.Core.Path.{_≡_, refl, sym, ap, _∙_, fun-ext}
-use mathlib.Core.Logic.{_↔_}
+use mathlib.Core.Logic.{_≢_, _↔_}
 use mathlib.Core.List.{List, [], _∷_, _++_}
 use Prim.Native.Nat.{ℕ, zero, suc, _+_, _-_, _≤_, _<_}
 use native.Mathlib.Decide.{decLt}
@@ -11,6 +11,7 @@ use native.Mathlib.Omega.{arith}
 use Rattle.calculus.specs.declared.Kind.{Kind}
 use Rattle.calculus.specs.declared.Kind.the-variants.{Theorem, Refuted, Spent, Full}
 use Rattle.calculus.specs.declared.Outcome.{Outcome}
+use Rattle.calculus.specs.declared.Verdict.{Verdict}
 use Rattle.calculus.specs.Fold.{Each}
 use Rattle.calculus.specs.Syntax.{Sequent, c}
 use Rattle.calculus.specs.Table.{premises}
@@ -69,6 +70,17 @@ whole-verdict b S h =
     let e = spend-whole b (tree S .events) (tree S .end) h in
     let r : b - (b - reductions (tree S .events)) ≡ reductions (tree S .events) = omega arith in
     ap (λ (o : Outcome). record { kind = o .kind; reductions = b - o .unspent; closings = o .closings }) e ∙ rw r
+
+-- so a verdict that is not SPENT is of the whole tree, and its kind the tree's end
+pub verdict-whole : (b : ℕ) (S : Sequent) (e : Kind) → verdict b S .kind ≡ e → e ≢ Spent → reductions (tree S .events) ≤ b
+verdict-whole b S e h n = go (decLt b (reductions (tree S .events)))
+  where
+    go : Dec (b < reductions (tree S .events)) → reductions (tree S .events) ≤ b
+    go (yes l) = absurd (n (sym h ∙ spent-exactly b S .1 l))
+    go (no l) = omega arith
+
+pub verdict-end : (b : ℕ) (S : Sequent) (e : Kind) → verdict b S .kind ≡ e → e ≢ Spent → tree S .end ≡ e
+verdict-end b S e h n = ap (λ (v : Verdict). v .kind) (sym (whole-verdict b S (verdict-whole b S e h n))) ∙ h
 
 -- the budget bounds what is left
 pub spend-left : (b : ℕ) (es : List Event) (e : Kind) → spend b es e .unspent ≤ b

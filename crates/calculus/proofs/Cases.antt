@@ -1,5 +1,5 @@
--- The starred questions are answered as document 01 has them, and its numbers returned as its table has them: a claim each,
--- which antt computes.
+-- The starred questions are answered as document 01 has them, their refuting states listed, and the numbers returned as its table
+-- has them: a claim each, which antt computes.
 -- Assumes nothing.
 use mathlib.Core.Path.{_≡_, refl}
 use mathlib.Core.Option.{Option, none, some}
@@ -9,8 +9,9 @@ use Rattle.calculus.specs.Bytes.{question}
 use Rattle.calculus.specs.Derivation.{derivation}
 use Rattle.calculus.specs.Reading.{accepted, reading}
 use Rattle.calculus.specs.Tree.{verdict}
+use Rattle.calculus.specs.States.{lettersIn, refuting}
 use Rattle.calculus.specs.Width.{W}
-use Rattle.calculus.specs.Starred.{Case, starred}
+use Rattle.calculus.specs.Starred.{Case, starred, refutations}
 use Rattle.calculus.specs.Numbers.{numbers}
 
 -- where the table prints a derivation
@@ -36,5 +37,10 @@ answered q =
 pub starred-right : (map (λ q. reading (q .bytes)) starred ≡ map (λ q. accepted) starred) × (map answered starred ≡ starred)
 starred-right = (refl, refl)
 
+pub refutations-right : map (λ q. refuting (question (q .bytes))) starred ≡ refutations
+unfolding lettersIn
+refutations-right = refl
+
 pub numbers-right : map (λ r. r .replied) numbers ≡ map (λ r. r .printed) numbers
+unfolding lettersIn
 numbers-right = refl

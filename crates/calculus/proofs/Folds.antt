@@ -54,6 +54,12 @@ pub or-elim : {Q : Type 0} (a b : Bool) → (a || b) ≡ true → (a ≡ true �
 or-elim true b e f g = f refl
 or-elim false b e f g = g e
 
+pub or-left : (a b : Bool) → a ≡ true → (a || b) ≡ true
+or-left a b e = rw e
+
+pub or-right : (a b : Bool) → b ≡ true → (a || b) ≡ true
+or-right a b e = rw e (or-true a)
+
 pub or-false-both : (a b : Bool) → (a || b) ≡ false → (a ≡ false) × (b ≡ false)
 or-false-both true b e = absurd (true≢false e)
 or-false-both false b e = (refl, e)
@@ -80,6 +86,10 @@ each-map Q Q′ g f (x ∷ xs) h = (f x (h .0), each-map Q Q′ g f xs (h .1))
 pub each-append : {X : Type 0} (Q : X → Type 0) (xs ys : List X) → Each Q xs → Each Q ys → Each Q (xs ++ ys)
 each-append Q [] ys h k = k
 each-append Q (x ∷ xs) ys h k = (h .0, each-append Q xs ys (h .1) k)
+
+pub each-and : {X : Type 0} (Q Q′ : X → Type 0) (xs : List X) → Each Q xs → Each Q′ xs → Each (λ x. Q x × Q′ x) xs
+each-and Q Q′ [] h k = tt
+each-and Q Q′ (x ∷ xs) h k = ((h .0, k .0), each-and Q Q′ xs (h .1) (k .1))
 
 pub any-false : {X : Type 0} (g : X → Bool) (Q : X → Type 0) → ((x : X) → Q x → g x ≡ false) → (xs : List X) → Each Q xs → fold ANY g xs ≡ false
 any-false g Q f [] h = refl

@@ -8,4 +8,9 @@ pub mod Budgets
 pub mod Derivations
 pub mod Spelling
 pub mod Readings
+pub mod Lists
+pub mod Buffers
+pub mod Letters
+pub mod States
+pub mod Refutations
 pub mod Cases

@@ -34,7 +34,7 @@ abbrev pub put : {X : Type 0} → Side → X → Put X
 put Left x = L x
 put Right x = R x
 
-at-put : {A X : Type 0} (f : Side → X → A) (s : Side) (x : X) → at f (put s x) ≡ f s x
+pub at-put : {A X : Type 0} (f : Side → X → A) (s : Side) (x : X) → at f (put s x) ≡ f s x
 at-put f Left x = refl
 at-put f Right x = refl
 
@@ -59,7 +59,7 @@ splice-here [] i w e = absurd (Option·none-ne-some w e)
 splice-here (x ∷ xs) zero w e = cc
 splice-here {X} (x ∷ xs) (suc i) w e = ap (λ (l : List X). x ∷ l) (splice-here xs i w e)
 
-put-back : (s : Side) (i : ℕ) (x : Compound) (S : Sequent) → Due S s i x → premise s i S (put s (whole x) ∷ []) ≡ S
+pub put-back : (s : Side) (i : ℕ) (x : Compound) (S : Sequent) → Due S s i x → premise s i S (put s (whole x) ∷ []) ≡ S
 put-back Left i x S e = λ j. record { on-left = splice-here (S .on-left) i (whole x) e j; on-right = append-nil (S .on-right) j }
 put-back Right i x S e = λ j. record { on-left = append-nil (S .on-left) j; on-right = splice-here (S .on-right) i (whole x) e j }
 

@@ -1,4 +1,4 @@
--- The definitions, in document 01's order.
+-- The definitions, in document 01's order; `States` is of document 02.
 pub mod Limits
 pub mod Fold
 pub mod Syntax
@@ -9,6 +9,7 @@ pub mod Table
 pub mod Tree
 pub mod Width
 pub mod Derivation
+pub mod States
 pub mod Reply
 pub mod Starred
 pub mod Numbers

@@ -1,4 +1,4 @@
--- The limits of document 01 and the numbers of its last table, each under one name.
+-- The limits of document 01 and the numbers of its last table, with those of document 02's requests, each under one name.
 use Prim.Native.Nat.{ℕ}
 
 -- the bytes of a question
@@ -16,6 +16,10 @@ CONNECTIVES = 48
 -- the letters ("lamps"), from 0, and the bits of a state
 abbrev pub LETTERS : ℕ
 LETTERS = 32
+
+-- the different letters of a question whose refuting states are listed
+abbrev pub VARIED : ℕ
+VARIED = 16
 
 -- the formulas of a running sequent
 abbrev pub ROOM : ℕ
@@ -57,6 +61,11 @@ NOT-PROVED = 10
 
 abbrev pub NO-SPACE : ℕ
 NO-SPACE = 11
+
+-- ---- refusal of a list of states
+
+abbrev pub MANY-LETTERS : ℕ
+MANY-LETTERS = 12
 
 -- ---- faults that the checker finds
 

@@ -1,9 +1,13 @@
 -- "Numbers and places returned", row by row: what the definitions reply to a smallest example, and what document 01 prints.
-use mathlib.Core.List.{List, [], _∷_, _++_}
+-- The numbers of document 02's requests join them.
+use mathlib.Core.List.{List, [], _∷_, _++_, map}
 use Prim.Native.Nat.{ℕ}
 use lib.ListN.{replicate}
 use Rattle.calculus.specs.declared.Kind.the-variants.{Full}
-use Rattle.calculus.specs.Reply.{Reply, verdictReply, decideReply, derive, checkReply}
+use Rattle.calculus.specs.Syntax.{letter, Sequent}
+use Rattle.calculus.specs.Bytes.{encodeSequent}
+use Rattle.calculus.specs.States.{from}
+use Rattle.calculus.specs.Reply.{Reply, verdictReply, decideReply, derive, checkReply, listStates}
 use Rattle.calculus.specs.Starred.{large, failing}
 
 pub record Row : Type 0 where
@@ -20,6 +24,9 @@ read q = decideReply q large
 abbrev written : List ℕ → Reply
 written q = derive q large [] .reply
 
+abbrev listed : List ℕ → Reply
+listed q = listStates q [] .reply
+
 -- P left, P right; the sequent with no formulas; P left alone
 abbrev theorem : List ℕ
 theorem = 0x10 ∷ 0x01 ∷ 0x01 ∷ 0x00 ∷ 0x20 ∷ 0x01 ∷ 0x01 ∷ 0x00 ∷ []
@@ -29,6 +36,10 @@ empty = 0x10 ∷ 0x00 ∷ 0x20 ∷ 0x00 ∷ []
 
 abbrev lettered : List ℕ
 lettered = 0x10 ∷ 0x01 ∷ 0x01 ∷ 0x00 ∷ 0x20 ∷ 0x00 ∷ []
+
+-- 16 letters left, another right
+abbrev seventeen : Sequent
+seventeen = record { on-left = map letter (from 0 16); on-right = letter 16 ∷ [] }
 
 abbrev pub numbers : List Row
 numbers =
@@ -54,6 +65,10 @@ numbers =
     ∷ row (written failing) 10 (3 ∷ 8 ∷ 1 ∷ [])
     -- length needed: 11 NO SPACE, the lent buffer is shorter than the derivation (case 2)
     ∷ row (written theorem) 11 (2 ∷ [])
+    -- number of states: 11 NO SPACE, the lent slice is shorter than the list of refuting states (document 02, a)
+    ∷ row (listed empty) 11 (1 ∷ [])
+    -- that number: 12 MANY LAMPS, more than 16 different lamps occur (document 02, a)
+    ∷ row (listed (encodeSequent seventeen)) 12 (17 ∷ [])
     -- command's place: 20, fewer than two bytes left while a sequent waits
     ∷ row (checkReply theorem (0x41 ∷ [])) 20 (0 ∷ [])
     -- command's place: 21, unknown command

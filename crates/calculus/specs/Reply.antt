@@ -1,4 +1,5 @@
 -- "Numbers and places returned": what each call replies for each input.
+use mathlib.Core.Bool.{Bool, true, false}
 use mathlib.Core.Option.{Option, none, some}
 use mathlib.Core.List.{List, [], _∷_, _++_}
 use Prim.Native.Nat.{ℕ}
@@ -10,13 +11,14 @@ use Rattle.calculus.specs.declared.Kind.the-variants.{Theorem, Refuted, 
 use Rattle.calculus.specs.declared.Part.{Part}
 use Rattle.calculus.specs.declared.Verdict.{Verdict}
 use Rattle.calculus.specs.Fold.{choose}
-use Rattle.calculus.specs.Limits.{FULL, SPENT, NOT-PROVED, NO-SPACE}
+use Rattle.calculus.specs.Limits.{VARIED, FULL, SPENT, NOT-PROVED, NO-SPACE, MANY-LETTERS}
 use Rattle.calculus.specs.Syntax.{Formula, Sequent, on-side, c}
 use Rattle.calculus.specs.Bytes.{encode, bytes, question, startOf}
 use Rattle.calculus.specs.Reading.{Reading, accepted, refused, reading}
 use Rattle.calculus.specs.Tree.{verdict}
 use Rattle.calculus.specs.Width.{W}
 use Rattle.calculus.specs.Derivation.{derivation, Checked, passes, faulty, checking}
+use Rattle.calculus.specs.States.{lettersIn, refuting}
 
 -- the table's number, 0 where there is none, and what is returned beside it
 pub record Reply : Type 0 where
@@ -68,29 +70,40 @@ ownBytes (refused n at) o = []
 abbrev pub formulaBytes : List ℕ → Side → ℕ → List ℕ
 formulaBytes q s i = ownBytes (reading q) (getElem? (on-side s (question q)) i)
 
--- ---- writing a derivation: "8, 9, 10, 11 in that order"
+-- ---- a lent buffer
 
 -- the reply, and the lent buffer after the call
 pub record Written : Type 0 where
   pub reply : Reply
   pub buffer : List ℕ
 
+-- a number and what is returned beside it; the buffer "keeps its old content"
+abbrev pub unwritten : ℕ → List ℕ → List ℕ → Written
+unwritten n vs old = record { reply = record { number = n; values = vs }; buffer = old }
+
+-- xs in its first places if there is room, the rest as it was: the reply is how many they are, then vs; else 11 with how many are needed
+abbrev pub fillOut : List ℕ → List ℕ → List ℕ → Written
+fillOut xs vs old =
+    choose (ltb (length old) (length xs)) (unwritten NO-SPACE (length xs ∷ []) old)
+    (record { reply = record { number = 0; values = length xs ∷ vs }; buffer = xs ++ drop (length xs) old })
+
+-- a refused question
+abbrev pub ifReadOut : Reading → List ℕ → Written → Written
+ifReadOut accepted old w = w
+ifReadOut (refused n at) old w = unwritten n (at ∷ []) old
+
+-- ---- writing a derivation: "8, 9, 10, 11 in that order"
+
 abbrev pub writeOut : Kind → ℕ → ℕ → List ℕ → List ℕ → Written
-writeOut Theorem r k ds old =
-    choose (ltb (length old) (length ds)) (record { reply = record { number = NO-SPACE; values = length ds ∷ [] }; buffer = old })
-    (record { reply = record { number = 0; values = length ds ∷ r ∷ k ∷ [] }; buffer = ds ++ drop (length ds) old })
-writeOut (Refuted σ) r k ds old = record { reply = record { number = NOT-PROVED; values = σ ∷ r ∷ k ∷ [] }; buffer = old }
+writeOut Theorem r k ds old = fillOut ds (r ∷ k ∷ []) old
+writeOut (Refuted σ) r k ds old = unwritten NOT-PROVED (σ ∷ r ∷ k ∷ []) old
 writeOut Spent r k ds old = record { reply = verdictReply Spent r k; buffer = old }
 writeOut Full r k ds old = record { reply = verdictReply Full r k; buffer = old }
 
-abbrev pub writeIf : Reading → Sequent → ℕ → List ℕ → Written
-writeIf accepted S b old =
-    let v : Verdict = verdict b S in
-    writeOut (v .kind) (v .reductions) (v .closings) (derivation S) old
-writeIf (refused n at) S b old = record { reply = record { number = n; values = at ∷ [] }; buffer = old }
-
 abbrev pub derive : List ℕ → ℕ → List ℕ → Written
-derive q b old = writeIf (reading q) (question q) b old
+derive q b old =
+    let v : Verdict = verdict b (question q) in
+    ifReadOut (reading q) old (writeOut (v .kind) (v .reductions) (v .closings) (derivation (question q)) old)
 
 -- ---- checking: "reads the question first"; "answers only that the derivation passes"
 
@@ -100,3 +113,12 @@ checkedReply (faulty n at) = record { number = n; values = at ∷ [] }
 
 abbrev pub checkReply : List ℕ → List ℕ → Reply
 checkReply q ds = ifRead (reading q) (checkedReply (checking (question q) ds))
+
+-- ---- listing the refuting states: 12 with the number of different letters, 11 with that of the states "comes after 12"
+
+abbrev pub listOut : Bool → Sequent → List ℕ → Written
+listOut true S old = unwritten MANY-LETTERS (length (lettersIn S) ∷ []) old
+listOut false S old = fillOut (refuting S) [] old
+
+abbrev pub listStates : List ℕ → List ℕ → Written
+listStates q old = ifReadOut (reading q) old (listOut (ltb VARIED (length (lettersIn (question q)))) (question q) old)

@@ -43,3 +43,20 @@ starred =
     ∷ case failing 8 (Refuted 3) 8 1 6 none
     ∷ case (0x10 ∷ 0x01 ∷ 0x03 ∷ 0x01 ∷ 0x00 ∷ 0x01 ∷ 0x01 ∷ 0x20 ∷ 0x01 ∷ 0x03 ∷ 0x01 ∷ 0x00 ∷ 0x01 ∷ 0x01 ∷ []) large Theorem 2 2 2 none
     ∷ []
+
+-- the refuting states of each (document 02, a)
+abbrev pub refutations : List (List ℕ)
+refutations =
+    (0 ∷ [])
+    ∷ []
+    ∷ (1 ∷ [])
+    ∷ []
+    ∷ []
+    ∷ (2 ∷ [])
+    ∷ []
+    ∷ (0 ∷ 1 ∷ [])
+    ∷ (3 ∷ [])
+    ∷ (3 ∷ [])
+    ∷ (3 ∷ [])
+    ∷ []
+    ∷ []

@@ -11,14 +11,13 @@ use borrow.Author.Tests.{ltb-false}
 use Rattle.calculus.specs.declared.Kind.{Kind}
 use Rattle.calculus.specs.declared.Kind.the-variants.{Theorem, Refuted, Spent, Full}
 use Rattle.calculus.specs.declared.Verdict.{Verdict}
-use Rattle.calculus.specs.Syntax.{Sequent}
 use Rattle.calculus.specs.Bytes.{question}
 use Rattle.calculus.specs.Fold.{choose}
 use Rattle.calculus.specs.Limits.{NO-SPACE}
 use Rattle.calculus.specs.Reading.{Reading, accepted, refused, reading}
 use Rattle.calculus.specs.Tree.{verdict}
 use Rattle.calculus.specs.Derivation.{derivation}
-use Rattle.calculus.specs.Reply.{Reply, Written, writeOut, writeIf, derive}
+use Rattle.calculus.specs.Reply.{Reply, Written, ifReadOut, writeOut, derive}
 use Rattle.writer.specs.declared.Writing.the-variants.{Written as written}
 use Rattle.writer.specs.Answers.{answerOf}
 
@@ -40,12 +39,15 @@ out-fits (Refuted σ) n r k i j ds old h = let z : _≡_ {A = ℕ} 0 10 = ap (λ
 out-fits Spent n r k i j ds old h = let z : _≡_ {A = ℕ} 0 9 = ap (λ (p : Reply). p .number) h in omega arith
 out-fits Full n r k i j ds old h = let z : _≡_ {A = ℕ} 0 8 = ap (λ (p : Reply). p .number) h in omega arith
 
-if-fits : (a : Reading) (S : Sequent) (b n i j : ℕ) (old : List ℕ) → three n i j ≡ writeIf a S b old .reply → n ≤ length old
-if-fits accepted S b n i j old h = let v = verdict b S in out-fits (v .kind) n (v .reductions) (v .closings) i j (derivation S) old h
-if-fits (refused m at) S b n i j old h =
+if-fits : (a : Reading) (w : Written) (n i j : ℕ) (old : List ℕ) → (three n i j ≡ w .reply → n ≤ length old) → three n i j ≡ ifReadOut a old w .reply → n ≤ length old
+if-fits accepted w n i j old f h = f h
+if-fits (refused m at) w n i j old f h =
     let v : n ∷ i ∷ j ∷ [] ≡ at ∷ [] = ap (λ (p : Reply). p .values) h in
     let z : _≡_ {A = ℕ} 0 1 = cc in
     omega arith
 
 pub written-fits : (q : List ℕ) (b : ℕ) (old : List ℕ) (n : ℕ) (v : Verdict) → answerOf (written n v) ≡ derive q b old .reply → n ≤ length old
-written-fits q b old n v h = if-fits (reading q) (question q) b n (v .reductions) (v .closings) old h
+written-fits q b old n v h =
+    let u = verdict b (question q) in
+    let ds = derivation (question q) in
+    if-fits (reading q) (writeOut (u .kind) (u .reductions) (u .closings) ds old) n (v .reductions) (v .closings) old (out-fits (u .kind) n (u .reductions) (u .closings) (v .reductions) (v .closings) ds old) h

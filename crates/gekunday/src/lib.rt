@@ -16,7 +16,7 @@ ghost use Rattle.calculus.specs.Bytes.{question};
 ghost use Rattle.calculus.specs.Reading.{accepted, reading};
 ghost use Rattle.calculus.specs.Truth.{Valid};
 ghost use Rattle.calculus.specs.Derivation.{Derivation};
-ghost use Rattle.calculus.specs.Reply.{decideReply, widthReply, formulaPart, formulaBytes, derive, checkReply};
+ghost use Rattle.calculus.specs.Reply.{decideReply, widthReply, formulaPart, formulaBytes, derive, checkReply, listStates};
 ghost use Rattle.question.specs.Answers.{numberOf, placeOf};
 ghost use Rattle.question.specs.Positions.{partBytes, partAt};
 ghost use Rattle.width.specs.Answers.{widthOf, Sized};
@@ -24,6 +24,8 @@ ghost use Rattle.width.specs.declared.Measure.the-variants.{Of};
 ghost use Rattle.prover.specs.Answers.{decisionOf, Promised};
 ghost use Rattle.writer.specs.Answers.{unproved, answerOf, Evidence};
 ghost use Rattle.checker.specs.Answers.{faultNumber, faultPlace, checkOf};
+ghost use Rattle.states.specs.Answers.{listingOf, Lists};
+ghost use Rattle.states.specs.declared.Listing.the-variants.{Listed};
 ghost use Rattle.writer.specs.declared.Writing.the-variants.{Written};
 ghost use Rattle.checker.specs.declared.Checking.the-variants.{Passes};
 ghost use Rattle.gekunday.specs.Words.{filled, Holds, kindNumber, refutedWord, stateWord, decideWords, partWords};
@@ -76,7 +78,16 @@ pub fn check(q: &[u8], derivation: &[u8]) -> checker::Checking
     checker::check(q, derivation)
 }
 
-// Document 01's numbers for a run that came to no verdict, and for a derivation that is not written.
+// Lists every state that makes a question false.
+pub fn refuting_states(q: &[u8], list: &mut [u32]) -> states::Listing
+    ensures reply { λ r. ⌜ listingOf r ≡ listStates (now (q .entry)) (now (list .entry)) .reply ⌝ }
+    ensures written { λ r. ⌜ now (list .exit) ≡ listStates (now (q .entry)) (now (list .entry)) .buffer ⌝ }
+    ensures all { λ r. ⌜ ((n : ℕ) → r ≡ Listed n → Lists (now (q .entry)) (take n (now (list .exit)))) ⌝ }
+{
+    states::refuting_states(q, list)
+}
+
+// The numbers for a run that came to no verdict, and for a derivation or a list that is not written.
 const FULL: u32 = 8;
 
 const SPENT: u32 = 9;
@@ -84,6 +95,8 @@ const SPENT: u32 = 9;
 const NOT_PROVED: u32 = 10;
 
 const NO_SPACE: u32 = 11;
+
+const MANY_LETTERS: u32 = 12;
 
 // A number and the words beside it.
 struct Words {
@@ -192,6 +205,17 @@ fn check_words(a: checker::Checking) -> Words
             second: 0,
             third: 0,
         },
+    }
+}
+
+fn listing_words(a: states::Listing) -> Words
+    ensures { λ w. ⌜ Holds (listingOf a) w ⌝ }
+{
+    match a {
+        states::Listing::Refused(r) => refusal_words(r),
+        states::Listing::ManyLetters(n) => placed(MANY_LETTERS, n),
+        states::Listing::NoSpace(n) => placed(NO_SPACE, n),
+        states::Listing::Listed(n) => placed(0, n),
     }
 }
 
@@ -310,6 +334,18 @@ pub extern "C" fn gekunday_check(q: &[u8], derivation: &[u8], out: &mut [u64; 1]
     ensures words { λ r. ⌜ now (out .exit) ≡ filled 1 (checkReply (now (q .entry)) (now (derivation .entry)) .values) ⌝ }
 {
     let w = check_words(checker::check(q, derivation));
+    *out = [w.first];
+    w.number
+}
+
+// Lists every state that makes a question false.
+#[no_mangle]
+pub extern "C" fn gekunday_states(q: &[u8], list: &mut [u32], out: &mut [u64; 1]) -> u32
+    ensures number { λ r. ⌜ r ≡ listStates (now (q .entry)) (now (list .entry)) .reply .number ⌝ }
+    ensures words { λ r. ⌜ now (out .exit) ≡ filled 1 (listStates (now (q .entry)) (now (list .entry)) .reply .values) ⌝ }
+    ensures written { λ r. ⌜ now (list .exit) ≡ listStates (now (q .entry)) (now (list .entry)) .buffer ⌝ }
+{
+    let w = listing_words(states::refuting_states(q, list));
     *out = [w.first];
     w.number
 }

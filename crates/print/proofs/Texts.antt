@@ -8,14 +8,9 @@ use native.Mathlib.Numerals.{add-one}
 use native.Mathlib.Omega.{arith}
 use lib.ListN.{length, drop, getD, set, length-append}
 use lib.Seq.{drop-cons, sets, sets-eq}
+use Rattle.calculus.proofs.Buffers.{sets-append}
 use Rattle.io.specs.Digits.{glyph, digits, Fewest}
 use Rattle.print.specs.Text.{blank, spaced, leading, decimalBy, decimal, spelled, hexadecimal, Printed}
-
-sets-append : (l : List ℕ) (i : ℕ) (xs ys : List ℕ) → sets (sets l i xs) (i + length xs) ys ≡ sets l i (xs ++ ys)
-sets-append l i [] ys = let z : i + 0 ≡ i = omega arith in ap (λ (k : ℕ). sets l k ys) z
-sets-append l i (x ∷ xs) ys =
-    let z : i + suc (length xs) ≡ suc i + length xs = omega arith in
-    ap (λ (k : ℕ). sets (sets (set l i x) (suc i) xs) k ys) z ∙ sets-append (set l i x) (suc i) xs ys
 
 -- ---- one text behind another
 

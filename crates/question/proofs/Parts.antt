@@ -3,15 +3,15 @@
 use mathlib.Core.Path.{_≡_, refl, sym, ap, _∙_}
 use mathlib.Core.Option.{Option, none, some}
 use mathlib.Core.List.{List, [], _∷_}
-use Prim.Native.Nat.{ℕ, _+_, _≤_, _<_}
+use Prim.Native.Nat.{ℕ, zero, suc, _+_, _-_, _≤_, _<_}
 use native.Mathlib.Nat.{add-zero}
 use native.Mathlib.Omega.{arith}
-use lib.ListN.{length, drop, getD, length-append}
+use lib.ListN.{length, take, drop, getD, length-append, length-drop}
 use lib.Seq.{drop-drop, getD-drop}
-use Rattle.calculus.specs.Syntax.{Binary, AND, OR, IMPLIES, EQUIV, Connective, NOT, two, Formula, letter, neg, join, Compound, whole}
+use Rattle.calculus.specs.Syntax.{Binary, AND, OR, IMPLIES, EQUIV, Connective, NOT, two, Formula, letter, neg, join, Compound, whole, compound}
 use Rattle.calculus.specs.Bytes.{Command, SIDE, LETTER, CONNECTIVE, code, command, encode, formulas, bytes}
 use Rattle.calculus.proofs.Spelling.{command-byte}
-use Rattle.question.specs.Positions.{Well, formulaAt, endOf}
+use Rattle.question.specs.Positions.{Well, firstOf, formulaAt, endOf}
 use Rattle.question.proofs.Readers.{connective-range}
 use Rattle.question.proofs.Walks.{skip-formulas, first-bytes}
 
@@ -139,6 +139,72 @@ is-not (two o) e = absurd (omega (arith, two-range o))
 pub is-two : (k : Connective) → (code (CONNECTIVE k) ≡ 2 → ⊥) → (o : Binary) × (k ≡ two o)
 is-two NOT n = absurd (n refl)
 is-two (two o) n = (o, refl)
+
+-- ---- a compound by the positions of its parts
+
+pub record FirstAt (q : List ℕ) (p : ℕ) : Type 0 where
+  pub connective : Connective
+  pub second : Formula
+  pub well : Well q (p + 1)
+  pub stands : formulaAt q p ≡ compound connective (formulaAt q (p + 1)) second
+
+pub record NotAt (q : List ℕ) (p : ℕ) : Type 0 where
+  pub stands : formulaAt q p ≡ neg (formulaAt q (p + 1))
+  pub ends : endOf q p ≡ endOf q (p + 1)
+
+pub record TwoAt (q : List ℕ) (p : ℕ) : Type 0 where
+  pub o : Binary
+  pub byte : getD q p 0 ≡ code (CONNECTIVE (two o))
+  pub well : Well q (endOf q (p + 1))
+  pub stands : formulaAt q p ≡ join o (formulaAt q (p + 1)) (formulaAt q (endOf q (p + 1)))
+  pub ends : endOf q p ≡ endOf q (endOf q (p + 1))
+
+module _ (q : List ℕ) (p : ℕ) (h : Well q p) (l : 2 ≤ getD q p 0) where
+  pub first-at : FirstAt q p
+  first-at =
+      let x = compound-at q p h l .0 in
+      let a = compound-at q p h l .1 in
+      record { connective = x .connective; second = x .g; well = a .first-well; stands = rw (a .first) (a .stands) }
+
+  pub not-at : getD q p 0 ≡ 2 → NotAt q p
+  not-at e =
+      let x = compound-at q p h l .0 in
+      let a = compound-at q p h l .1 in
+      let k : x .connective ≡ NOT = is-not (x .connective) (sym (a .byte) ∙ e) in
+      let b : NotBehind q p (x .f) (x .g) = rw k at (a .behind) in
+      let s : formulaAt q p ≡ neg (x .f) = rw k at (a .stands) in
+      record { stands = rw (a .first) s; ends = sym (b .ends) }
+
+  pub two-at : (getD q p 0 ≡ 2 → ⊥) → TwoAt q p
+  two-at n =
+      let x = compound-at q p h l .0 in
+      let a = compound-at q p h l .1 in
+      let t = is-two (x .connective) (λ e. n (a .byte ∙ e)) in
+      let b : SecondAt q p (x .g) = rw (t .1) at (a .behind) in
+      let s : formulaAt q p ≡ join (t .0) (x .f) (x .g) = rw (t .1) at (a .stands) in
+      record { o = t .0; byte = rw (t .1) at (a .byte); well = b .well; stands = rw (b .stands, a .first) s; ends = sym (b .ends) }
+
+-- ---- where d formulas are due: the next one, and those behind it
+
+pub record NextDue (q : List ℕ) (p d : ℕ) : Type 0 where
+  pub well : Well q p
+  pub split : take d (formulas (drop p q)) ≡ formulaAt q p ∷ take (d - 1) (formulas (drop (endOf q p) q))
+  pub due : d - 1 ≤ length (formulas (drop (endOf q p) q))
+
+take-first : (xs : List Formula) (d : ℕ) → 0 < d → d ≤ length xs → take d xs ≡ firstOf xs ∷ take (d - 1) (drop 1 xs)
+take-first [] d h k = absurd (omega arith)
+take-first (x ∷ xs) zero h k = absurd (omega arith)
+take-first (x ∷ xs) (suc m) h k = let e : suc m - 1 ≡ m = omega arith in rw e
+
+pub next-due : (q : List ℕ) (p d : ℕ) → 0 < d → d ≤ length (formulas (drop p q)) → NextDue q p d
+next-due q p d h k =
+    let l : Well q p = omega arith in
+    let n = next-formulas q p l in
+    record {
+      well = l;
+      split = take-first (formulas (drop p q)) d h k ∙ rw n;
+      due = rw n (omega (arith, length-drop 1 (formulas (drop p q))));
+    }
 
 -- a formula has two bytes at least
 bytes-two : (x : Formula) → 2 ≤ bytes x

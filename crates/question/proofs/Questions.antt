@@ -10,8 +10,9 @@ use lib.ListN.{length, take, drop, getD, getElem?, length-append, length-drop}
 use lib.Seq.{drop-drop, drop-append-add, getD-append-add, take-append-seam, take-length}
 use Rattle.calculus.specs.declared.Side.{Side}
 use Rattle.calculus.specs.declared.Side.the-variants.{Left, Right}
+use Rattle.calculus.specs.Fold.{Each}
 use Rattle.calculus.specs.Syntax.{Formula, on-side}
-use Rattle.calculus.specs.Bytes.{encode, encodeAll, encodeSide, encodeSequent, formulas, bytes, bytesAll, question, sideStart, startOf}
+use Rattle.calculus.specs.Bytes.{encode, encodeAll, encodeSide, encodeSequent, formulas, bytes, bytesAll, question, sideStart, startOf, Lettered}
 use Rattle.calculus.specs.Reading.{Reading, accepted, refused, reading}
 use Rattle.calculus.specs.Reply.{formulaPart, formulaBytes}
 use Rattle.calculus.proofs.Readings.{accepted-question}
@@ -26,7 +27,23 @@ pub side-formulas : (q : List ℕ) (s : Side) → formulas (drop (sideStart s (q
 side-formulas q Left = refl
 side-formulas q Right = refl
 
+-- as many formulas as a side has, from where it starts, are that side
+pub record SideRead (q : List ℕ) (s : Side) (at n : ℕ) : Type 0 where
+  pub enough : n ≤ length (formulas (drop at q))
+  pub all : take n (formulas (drop at q)) ≡ on-side s (question q)
+  pub lettered : Each Lettered (take n (formulas (drop at q)))
+
 module _ (q : List ℕ) (a : reading q ≡ accepted) where
+  side-lettered : (s : Side) → Each Lettered (on-side s (question q))
+  side-lettered Left = accepted-question q a .0 .letters-left
+  side-lettered Right = accepted-question q a .0 .letters-right
+
+  pub side-read : (s : Side) (at n : ℕ) → at ≡ sideStart s (question q) → n ≡ length (on-side s (question q)) → SideRead q s at n
+  side-read s at n e h =
+      let f : formulas (drop at q) ≡ on-side s (question q) = rw e (side-formulas q s) in
+      let t : take n (formulas (drop at q)) ≡ on-side s (question q) = rw (f, h) (take-length (on-side s (question q))) in
+      record { enough = rw (f, h) (omega arith); all = t; lettered = rw t (side-lettered s) }
+
   coded : encodeSequent (question q) ≡ q
   coded = accepted-question q a .1
 

@@ -1,18 +1,22 @@
 -- Formulas at positions: what stands behind n formulas, and what a walk over commands passes.
 -- Assumes nothing.
 use mathlib.Core.Path.{_≡_, refl, sym, ap, _∙_}
+use mathlib.Core.Bool.{false, _||_, or-assoc}
 use mathlib.Core.Option.{Option, none, some}
 use mathlib.Core.List.{List, [], _∷_, append-assoc, append-nil}
 use Prim.Native.Nat.{ℕ, zero, suc, _+_, _≤_, _<_}
 use native.Mathlib.Numerals.{add-one, one-add}
 use native.Mathlib.Nat.{add-zero}
 use native.Mathlib.Omega.{arith}
+use lib.Dec.{eqb}
 use lib.ListN.{length, take, drop, getD, length-drop}
 use lib.Seq.{drop-drop, getD-drop}
+use Rattle.calculus.specs.Fold.{fold, ANY}
 use Rattle.calculus.specs.Syntax.{Binary, AND, OR, IMPLIES, EQUIV, Connective, NOT, two, Formula, letter, neg, join}
 use Rattle.calculus.specs.Bytes.{Command, SIDE, LETTER, CONNECTIVE, code, command, encode, encodeAll, attach, spell, formulas, bytes, bytesAll}
+use Rattle.calculus.specs.States.{occurs}
 use Rattle.calculus.proofs.Spelling.{command-byte}
-use Rattle.question.specs.Positions.{Well, firstOf, endOf, commandLength, dueAfter}
+use Rattle.question.specs.Positions.{Well, firstOf, endOf, commandLength, dueAfter, names}
 
 -- ---- one command of a list of bytes that spells more than m formulas
 
@@ -23,27 +27,34 @@ pub record Walked (l : List ℕ) (m n d : ℕ) : Type 0 where
   pub due : d ≤ length (formulas (drop n l))
   pub sizes : bytesAll (take (suc m) (formulas l)) ≡ n + bytesAll (take d (formulas (drop n l)))
   pub left-over : drop (suc m) (formulas l) ≡ drop d (formulas (drop n l))
+  pub letters : (k : ℕ) → fold ANY (occurs k) (take (suc m) (formulas l)) ≡ (names (getD l 0 0) (getD l 1 0) k || fold ANY (occurs k) (take d (formulas (drop n l))))
 
-walked-letter : (b k : ℕ) (bs : List ℕ) (m : ℕ) → command b ≡ some LETTER → suc m ≤ length (formulas (b ∷ k ∷ bs)) → Walked (b ∷ k ∷ bs) m 2 m
-walked-letter b k bs m e h =
+walked-letter : (b k : ℕ) (bs : List ℕ) (m : ℕ) → command b ≡ some LETTER → b ≡ 1 → suc m ≤ length (formulas (b ∷ k ∷ bs)) → Walked (b ∷ k ∷ bs) m 2 m
+walked-letter b k bs m e c h =
     let f : formulas (b ∷ k ∷ bs) ≡ letter k ∷ formulas bs = rw e in
     let n : suc m ≤ suc (length (formulas bs)) = rw f at h in
-    record { inside = omega arith; onward = omega arith; due = omega arith; sizes = rw f (omega arith); left-over = rw f }
+    record { inside = omega arith; onward = omega arith; due = omega arith; sizes = rw f (omega arith); left-over = rw f; letters = λ j. rw (f, c) }
 
-walked-not : (b k : ℕ) (bs : List ℕ) (m : ℕ) → command b ≡ some (CONNECTIVE NOT) → suc m ≤ length (formulas (b ∷ k ∷ bs))
+walked-not : (b k : ℕ) (bs : List ℕ) (m : ℕ) → command b ≡ some (CONNECTIVE NOT) → b ≡ 2 → suc m ≤ length (formulas (b ∷ k ∷ bs))
     → Walked (b ∷ k ∷ bs) m 1 (suc m)
-walked-not b k bs m e h = go (formulas (k ∷ bs)) refl
+walked-not b k bs m e c h = go (formulas (k ∷ bs)) refl
   where
     go : (xs : List Formula) → formulas (k ∷ bs) ≡ xs → Walked (b ∷ k ∷ bs) m 1 (suc m)
     go [] f = let g : formulas (b ∷ k ∷ bs) ≡ [] = rw (e, f) in absurd (omega (arith, ap length g))
     go (x ∷ xs) f =
         let g : formulas (b ∷ k ∷ bs) ≡ neg x ∷ xs = rw (e, f) in
         let n : suc m ≤ suc (length xs) = rw g at h in
-        record { inside = omega arith; onward = omega arith; due = rw f n; sizes = rw (g, f) (omega arith); left-over = rw (g, f) }
+        record { inside = omega arith; onward = omega arith; due = rw f n; sizes = rw (g, f) (omega arith); left-over = rw (g, f); letters = λ j. rw (g, f, c) }
 
-walked-two : (o : Binary) (b k : ℕ) (bs : List ℕ) (m : ℕ) → command b ≡ some (CONNECTIVE (two o)) → suc m ≤ length (formulas (b ∷ k ∷ bs))
+two-names : (o : Binary) → eqb (code (CONNECTIVE (two o))) 1 ≡ false
+two-names AND = refl
+two-names OR = refl
+two-names IMPLIES = refl
+two-names EQUIV = refl
+
+walked-two : (o : Binary) (b k : ℕ) (bs : List ℕ) (m : ℕ) → command b ≡ some (CONNECTIVE (two o)) → b ≡ code (CONNECTIVE (two o)) → suc m ≤ length (formulas (b ∷ k ∷ bs))
     → Walked (b ∷ k ∷ bs) m 1 (suc (suc m))
-walked-two o b k bs m e h = go (formulas (k ∷ bs)) refl
+walked-two o b k bs m e c h = go (formulas (k ∷ bs)) refl
   where
     go : (xs : List Formula) → formulas (k ∷ bs) ≡ xs → Walked (b ∷ k ∷ bs) m 1 (suc (suc m))
     go [] f = let g : formulas (b ∷ k ∷ bs) ≡ [] = rw (e, f) in absurd (omega (arith, ap length g))
@@ -51,7 +62,14 @@ walked-two o b k bs m e h = go (formulas (k ∷ bs)) refl
     go (x ∷ y ∷ xs) f =
         let g : formulas (b ∷ k ∷ bs) ≡ join o x y ∷ xs = rw (e, f) in
         let n : suc m ≤ suc (length xs) = rw g at h in
-        record { inside = omega arith; onward = omega arith; due = rw f (omega arith); sizes = rw (g, f) (ap suc (ap length (append-assoc (encode x) (encode y) (encodeAll (take m xs)))) ∙ sym (one-add _)); left-over = rw (g, f) }
+        record {
+          inside = omega arith;
+          onward = omega arith;
+          due = rw f (omega arith);
+          sizes = rw (g, f) (ap suc (ap length (append-assoc (encode x) (encode y) (encodeAll (take m xs)))) ∙ sym (one-add _));
+          left-over = rw (g, f);
+          letters = λ j. rw (g, f, c, two-names o) (or-assoc (occurs j x) (occurs j y) (fold ANY (occurs j) (take m xs)));
+        }
 
 -- by the code's tests of the byte
 two-due : (o : Binary) (m : ℕ) → dueAfter (suc m) (code (CONNECTIVE (two o))) ≡ suc (suc m)
@@ -78,15 +96,15 @@ walked (b ∷ k ∷ bs) m h = go (command b) refl
         let c : b ≡ 1 = sym (command-byte b LETTER e) in
         let n : commandLength b ≡ 2 = rw c in
         let d : dueAfter (suc m) b ≡ m = rw c (omega arith) in
-        rw (n, d) (walked-letter b k bs m e h)
+        rw (n, d) (walked-letter b k bs m e c h)
     go (some (CONNECTIVE NOT)) e =
         let c : b ≡ 2 = sym (command-byte b (CONNECTIVE NOT) e) in
         let n : commandLength b ≡ 1 = rw c in
         let d : dueAfter (suc m) b ≡ suc m = rw c in
-        rw (n, d) (walked-not b k bs m e h)
+        rw (n, d) (walked-not b k bs m e c h)
     go (some (CONNECTIVE (two o))) e =
         let c = sym (command-byte b (CONNECTIVE (two o)) e) in
-        rw (ap commandLength c ∙ two-length o, ap (dueAfter (suc m)) c ∙ two-due o m) (walked-two o b k bs m e h)
+        rw (ap commandLength c ∙ two-length o, ap (dueAfter (suc m)) c ∙ two-due o m) (walked-two o b k bs m e c h)
 
 -- ---- lengths
 
@@ -154,6 +172,8 @@ pub record Stepped (q : List ℕ) (i d : ℕ) : Type 0 where
   pub due : dueAfter d (getD q i 0) ≤ length (formulas (drop (i + commandLength (getD q i 0)) q))
   pub sizes : i + commandLength (getD q i 0) + bytesAll (take (dueAfter d (getD q i 0)) (formulas (drop (i + commandLength (getD q i 0)) q)))
       ≡ i + bytesAll (take d (formulas (drop i q)))
+  pub letters : (k : ℕ) → fold ANY (occurs k) (take d (formulas (drop i q)))
+      ≡ (names (getD q i 0) (getD q (i + 1) 0) k || fold ANY (occurs k) (take (dueAfter d (getD q i 0)) (formulas (drop (i + commandLength (getD q i 0)) q))))
 
 pub walked-at : (q : List ℕ) (i d : ℕ) → 0 < d → d ≤ length (formulas (drop i q)) → Stepped q i d
 walked-at q i zero h k = absurd (omega arith)
@@ -168,6 +188,7 @@ walked-at q i (suc m) h k =
       small = omega (arith, length-drop i q, formulas-length (drop i q));
       due = rw e at (w .due);
       sizes = omega (arith, rw e at (w .sizes));
+      letters = λ j. rw (getD-drop i q 0 0, add-zero i, getD-drop i q 1 0, e) at (w .letters j);
     }
 
 -- ---- formulas end within the bytes

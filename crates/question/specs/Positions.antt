@@ -1,12 +1,16 @@
 -- The formula at a position of a question's bytes.
+use mathlib.Core.Path.{_≡_}
+use mathlib.Core.Bool.{Bool, _&&_, _||_}
 use mathlib.Core.List.{List, [], _∷_}
 use Prim.Native.Nat.{ℕ, _+_, _-_, _≤_}
 use lib.Dec.{eqb}
 use lib.ListN.{length, take, drop}
 use Rattle.calculus.specs.declared.Part.{Part}
-use Rattle.calculus.specs.Fold.{choose}
+use Rattle.calculus.specs.Fold.{fold, ANY, choose}
 use Rattle.calculus.specs.Syntax.{Formula, letter}
 use Rattle.calculus.specs.Bytes.{formulas, bytes}
+use Rattle.calculus.specs.Truth.{bit}
+use Rattle.calculus.specs.States.{occurs}
 
 -- a formula stands there
 abbrev pub Well : List ℕ → ℕ → Type 0
@@ -32,6 +36,14 @@ commandLength b = choose (eqb b 1) 2 1
 -- the formulas due after a command
 abbrev pub dueAfter : ℕ → ℕ → ℕ
 dueAfter d b = choose (eqb b 1) (d - 1) (choose (eqb b 2) d (d + 1))
+
+-- a command with the byte behind it names letter k
+abbrev pub names : ℕ → ℕ → ℕ → Bool
+names b m k = eqb b 1 && eqb k m
+
+-- r is a set of letters with those of formulas
+abbrev pub Marks : List Formula → ℕ → ℕ → Type 0
+Marks xs set r = (k : ℕ) → bit k r ≡ (bit k set || fold ANY (occurs k) xs)
 
 -- the bytes of a part
 abbrev pub partBytes : Part → List ℕ → List ℕ

@@ -6,16 +6,18 @@ use calculus::wide;
 ghost use mathlib.Core.Path.{_≡_};
 ghost use Prim.Native.Nat.{ℕ, _+_, _-_, _^_, _≤_, _<_};
 ghost use mathlib.Core.List.{List};
-ghost use mathlib.Core.Bool.{false};
+ghost use mathlib.Core.Bool.{false, _||_};
 ghost use lib.ListN.{length, take, drop, getD};
-ghost use Rattle.calculus.specs.Limits.{LONGEST, FORMULAS};
+ghost use Rattle.calculus.specs.Fold.{Each};
+ghost use Rattle.calculus.specs.Limits.{LONGEST, FORMULAS, LETTERS};
 ghost use Rattle.calculus.specs.Syntax.{on-side};
-ghost use Rattle.calculus.specs.Bytes.{SIDE, LETTER, code, formulas, bytesAll, question, sideStart};
+ghost use Rattle.calculus.specs.Bytes.{SIDE, LETTER, code, formulas, bytesAll, question, sideStart, Lettered};
 ghost use Rattle.calculus.specs.Reading.{accepted, reading};
+ghost use Rattle.calculus.specs.Truth.{bit};
 ghost use Rattle.calculus.specs.Reply.{formulaPart, formulaBytes};
 ghost use Rattle.question.specs.Answers.{numberOf, placeOf, readingOf};
 ghost use Rattle.question.specs.Answers.{expectedOf, done, Standing, Onwards, readFrom, steps};
-ghost use Rattle.question.specs.Positions.{Well, endOf, commandLength, dueAfter, partBytes, partAt};
+ghost use Rattle.question.specs.Positions.{Well, endOf, commandLength, dueAfter, names, Marks, partBytes, partAt};
 
 // The limits of document 01.
 pub const LONGEST_QUESTION: usize = 212;
@@ -300,6 +302,35 @@ pub fn end_of(q: &[u8], at: usize) -> usize
     ensures { λ r. ⌜ r ≡ endOf (now (q .entry)) at ⌝ }
 {
     skip(q, at, 1)
+}
+
+// A set of letters, letter k as bit k, with the one that a command and the byte behind it name.
+fn marked(set: u64, b: u8, k: u8) -> u64
+    requires { ⌜ (b ≡ 1 → k < LETTERS) ⌝ }
+    ensures { λ r. ⌜ ((m : ℕ) → bit m r ≡ (bit m set || names b k m)) ⌝ }
+{
+    if b == 1 {
+        return set | 1 << k;
+    }
+    set
+}
+
+// A set with the letters of n formulas that stand one after the other from a position on.
+pub fn letters(q: &[u8], at: usize, n: usize, set: u64) -> u64
+    requires { ⌜
+        (n ≤ length (formulas (drop at (now q)))) × Each Lettered (take n (formulas (drop at (now q)))) ⌝ }
+    ensures { λ r. ⌜ Marks (take n (formulas (drop at (now (q .entry))))) set r ⌝ }
+{
+    let mut all = set;
+    let mut i = at;
+    let mut due = n;
+    while 0 < due {
+        let b = q[i];
+        all = marked(all, b, q[i + 1]);
+        i += command_length(b);
+        due = due_after(due, b);
+    }
+    all
 }
 
 // Where the formulas of a side of an accepted question start.

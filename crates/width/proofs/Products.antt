@@ -1,21 +1,21 @@
 -- The product over formulas that stand one after the other.
 -- Assumes nothing.
 use mathlib.Core.Path.{_≡_, sym, ap, _∙_}
-use mathlib.Core.List.{List, [], _∷_}
-use Prim.Native.Nat.{ℕ, zero, suc, _+_, _-_, _*_, _^_, _≤_, _<_}
+use mathlib.Core.List.{List, _∷_}
+use Prim.Native.Nat.{ℕ, _+_, _-_, _*_, _^_, _≤_, _<_}
 use native.Mathlib.Nat.{add-assoc, mul-assoc, mul-le-mul, mul-one, add-zero, one-mul, zero-add, le-refl, le-trans}
 use native.Mathlib.Omega.{arith}
 use lib.Pow.{pow-add, pow-mono}
-use lib.ListN.{length, take, drop, length-append, length-drop}
+use lib.ListN.{length, take, drop, length-append}
 use Rattle.calculus.specs.declared.Side.{Side}
 use Rattle.calculus.specs.Fold.{fold, SUM, PRODUCT}
 use Rattle.calculus.specs.Limits.{CONNECTIVES}
-use Rattle.calculus.specs.Syntax.{Formula, connectives}
+use Rattle.calculus.specs.Syntax.{connectives}
 use Rattle.calculus.specs.Bytes.{encode, encodeAll, formulas, bytesAll}
 use Rattle.calculus.specs.Width.{width}
 use Rattle.calculus.proofs.Bounds.{width-le}
-use Rattle.question.specs.Positions.{Well, firstOf, formulaAt, endOf}
-use Rattle.question.proofs.Parts.{next-formulas}
+use Rattle.question.specs.Positions.{Well, formulaAt, endOf}
+use Rattle.question.proofs.Parts.{next-due}
 use Rattle.width.specs.declared.Product.{Product}
 use Rattle.width.specs.Walks.{productOf}
 
@@ -34,11 +34,6 @@ ahead-first q s at n h =
     let r = productOf s at (take n (formulas (drop at q))) in
     record { due = h; small = le-refl 1; same = λ i. record { width = one-mul (r .width) i; connectives = zero-add (r .connectives) i; end = r .end } }
 
-take-first : (xs : List Formula) (d : ℕ) → 0 < d → d ≤ length xs → take d xs ≡ firstOf xs ∷ take (d - 1) (drop 1 xs)
-take-first [] d h k = absurd (omega arith)
-take-first (x ∷ xs) zero h k = absurd (omega arith)
-take-first (x ∷ xs) (suc m) h k = let e : suc m - 1 ≡ m = omega arith in rw e
-
 -- the next formula is counted, and what follows it is ahead
 pub record Onward (q : List ℕ) (s : Side) (all : Product) (w k e d : ℕ) : Type 0 where
   pub well : Well q e
@@ -55,20 +50,18 @@ module _ (q : List ℕ) (s : Side) (all : Product) (w k e d : ℕ) (a : Ahead q 
   pub ahead-next : 0 < d → all .connectives ≤ CONNECTIVES → Onward q s all w k e d
   ahead-next h r =
       let x = formulaAt q e in
-      let l : Well q e = omega (arith, a .due) in
-      let n = next-formulas q e l in
       let ys = take (d - 1) (formulas (drop (endOf q e) q)) in
-      let o : take d (formulas (drop e q)) ≡ x ∷ ys = take-first (formulas (drop e q)) d h (a .due) ∙ rw n in
-      let t : onto w k (productOf s e (x ∷ ys)) ≡ all = rw o at (a .same) in
+      let n = next-due q e d h (a .due) in
+      let t : onto w k (productOf s e (x ∷ ys)) ≡ all = rw (n .split) at (a .same) in
       let m : k + connectives x ≤ CONNECTIVES = omega (arith, ap (λ (p : Product). p .connectives) t) in
       let g : w * width s x ≤ 2 ^ (k + connectives x) = rw pow-add (mul-le-mul (a .small) (width-le s x)) in
       let b : endOf q e + bytesAll ys ≡ e + bytesAll (x ∷ ys) = omega (arith, length-append (encode x) (encodeAll ys)) in
       record {
-        well = l;
+        well = n .well;
         counted = m;
         fits = le-trans g (pow-mono {j = CONNECTIVES} m);
         next = record {
-          due = rw n (omega (arith, a .due, length-drop 1 (formulas (drop e q))));
+          due = n .due;
           small = g;
           same = (λ i. record { width = mul-assoc w (width s x) (fold PRODUCT (width s) ys) i; connectives = add-assoc k (connectives x) (fold SUM connectives ys) i; end = b i }) ∙ t;
         };

@@ -1,6 +1,6 @@
 -- A formula's walk from those of its parts, and its bounds.
 -- Assumes nothing.
-use mathlib.Core.Path.{_≡_, refl, sym, _∙_, fun-ext}
+use mathlib.Core.Path.{_≡_, refl, sym, fun-ext}
 use mathlib.Core.List.{List}
 use Prim.Native.Nat.{ℕ, suc, _+_, _≤_}
 use native.Mathlib.Numerals.{add-one}
@@ -12,11 +12,10 @@ use Rattle.calculus.specs.declared.Side.{Side}
 use Rattle.calculus.specs.declared.Side.the-variants.{Left, Right}
 use Rattle.calculus.specs.Limits.{CONNECTIVES}
 use Rattle.calculus.specs.Syntax.{Binary, Connective, NOT, two, Formula, letter, neg, join, compound, connectives}
-use Rattle.calculus.specs.Bytes.{CONNECTIVE, code}
 use Rattle.calculus.specs.Width.{width}
 use Rattle.calculus.proofs.Bounds.{width-le}
-use Rattle.question.specs.Positions.{Well, formulaAt, endOf}
-use Rattle.question.proofs.Parts.{LetterAt, NotBehind, SecondAt, compound-at, is-not, is-two}
+use Rattle.question.specs.Positions.{formulaAt, endOf}
+use Rattle.question.proofs.Parts.{LetterAt, FirstAt, NotAt, TwoAt}
 use Rattle.width.specs.declared.Pair.{Pair}
 use Rattle.width.specs.declared.Walk.{Walk}
 use Rattle.width.specs.Walks.{sideOf, joined, Fit, pairOf, walkOf}
@@ -54,45 +53,12 @@ pub walk-letter : (q : List ℕ) (p : ℕ) → LetterAt q p
     → record { pair = record { left = 1; right = 1 }; connectives = 0; end = p + 2 } ≡ walkOf q p
 walk-letter q p a = walk q p (letter (getD q (p + 1) 0)) (p + 2) (a .stands) (a .ends)
 
-pub record NotAt (q : List ℕ) (p : ℕ) : Type 0 where
-  pub stands : formulaAt q p ≡ neg (formulaAt q (p + 1))
-  pub ends : endOf q p ≡ endOf q (p + 1)
-
-pub record TwoAt (q : List ℕ) (p : ℕ) : Type 0 where
-  pub o : Binary
-  pub byte : getD q p 0 ≡ code (CONNECTIVE (two o))
-  pub well : Well q (endOf q (p + 1))
-  pub stands : formulaAt q p ≡ join o (formulaAt q (p + 1)) (formulaAt q (endOf q (p + 1)))
-  pub ends : endOf q p ≡ endOf q (endOf q (p + 1))
-
 compound-less : (k : Connective) (x y : Formula) → suc (connectives x) ≤ connectives (compound k x y)
 compound-less NOT x y = omega arith
 compound-less (two o) x y = omega arith
 
-module _ (q : List ℕ) (p : ℕ) (h : Well q p) (l : 2 ≤ getD q p 0) where
-  pub first-at : Well q (p + 1) × (suc (connectives (formulaAt q (p + 1))) ≤ connectives (formulaAt q p))
-  first-at =
-      let x = compound-at q p h l .0 in
-      let a = compound-at q p h l .1 in
-      (a .first-well, rw (a .first, a .stands) (compound-less (x .connective) (x .f) (x .g)))
-
-  pub not-at : getD q p 0 ≡ 2 → NotAt q p
-  not-at e =
-      let x = compound-at q p h l .0 in
-      let a = compound-at q p h l .1 in
-      let k : x .connective ≡ NOT = is-not (x .connective) (sym (a .byte) ∙ e) in
-      let b : NotBehind q p (x .f) (x .g) = rw k at (a .behind) in
-      let s : formulaAt q p ≡ neg (x .f) = rw k at (a .stands) in
-      record { stands = rw (a .first) s; ends = sym (b .ends) }
-
-  pub two-at : (getD q p 0 ≡ 2 → ⊥) → TwoAt q p
-  two-at n =
-      let x = compound-at q p h l .0 in
-      let a = compound-at q p h l .1 in
-      let t = is-two (x .connective) (λ e. n (a .byte ∙ e)) in
-      let b : SecondAt q p (x .g) = rw (t .1) at (a .behind) in
-      let s : formulaAt q p ≡ join (t .0) (x .f) (x .g) = rw (t .1) at (a .stands) in
-      record { o = t .0; byte = rw (t .1) at (a .byte); well = b .well; stands = rw (b .stands, a .first) s; ends = sym (b .ends) }
+pub first-less : (q : List ℕ) (p : ℕ) → FirstAt q p → suc (connectives (formulaAt q (p + 1))) ≤ connectives (formulaAt q p)
+first-less q p a = rw (a .stands) (compound-less (a .connective) (formulaAt q (p + 1)) (a .second))
 
 -- "NOT exchanges the pair"
 pub walk-not : (q : List ℕ) (p : ℕ) → NotAt q p → (w : Walk) → w ≡ walkOf q (p + 1)

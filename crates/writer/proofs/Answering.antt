@@ -1,24 +1,19 @@
 -- What a theorem's derivation needs, and the answers of the call that writes it.
 -- Assumes nothing.
 use mathlib.Core.Path.{_≡_, refl, sym, ap, _∙_}
-use mathlib.Core.Bool.{Bool, true, false}
 use mathlib.Core.List.{List, [], _∷_, _++_}
 use Prim.Native.Nat.{ℕ, _+_, _*_, _^_, _≤_, _<_}
-use native.Mathlib.Decide.{decLt}
 use lib.Pow.{pow-mono}
 use native.Mathlib.Nat.{mul-le-mul}
 use native.Mathlib.Omega.{arith}
-use borrow.Author.Tests.{lt-ltb, le-ltb}
-use lib.Dec.{ltb}
 use lib.ListN.{length, take, drop}
-use lib.Seq.{take-at}
+use lib.Seq.{sets, take-at}
 use types.Run.{OneOf, miss}
 use denote.Enum.Declared.{tagOf}
 use Rattle.calculus.specs.declared.Kind.{Kind}
 use Rattle.calculus.specs.declared.Kind.the-variants.{Theorem, Refuted, Spent, Full}
 use Rattle.calculus.specs.declared.Verdict.{Verdict}
 use Rattle.calculus.proofs.Kind.{the-type}
-use Rattle.calculus.specs.Fold.{choose}
 use Rattle.calculus.specs.Limits.{CONNECTIVES}
 use Rattle.calculus.specs.Syntax.{Sequent, c}
 use Rattle.calculus.specs.Bytes.{question}
@@ -28,23 +23,14 @@ use Rattle.calculus.specs.Width.{W}
 use Rattle.calculus.specs.Derivation.{derivation, checking}
 use Rattle.calculus.specs.Reply.{derive, Written as Wrote, writeOut}
 use Rattle.calculus.proofs.Bounds.{reductions-bound, closings-bound, W-bound, theorem-true}
-use Rattle.calculus.proofs.Budgets.{spent-verdict, whole-verdict}
+use Rattle.calculus.proofs.Buffers.{sets-start, no-room, room}
+use Rattle.calculus.proofs.Budgets.{whole-verdict, verdict-whole, verdict-end}
 use Rattle.calculus.proofs.Derivations.{derivation-length, derivation-passes}
 use Rattle.question.specs.Answers.{numberOf, placeOf}
 use Rattle.question.specs.declared.Refusal.{Refusal}
 use Rattle.writer.specs.declared.Writing.{Writing}
 use Rattle.writer.specs.declared.Writing.the-variants.{Refused, NotProved, NoSpace, Written}
-use Rattle.writer.specs.Answers.{answerOf, laid, IsTheorem, WrittenOut, Evidence}
-
-laid-start : (l xs : List ℕ) → laid l 0 xs ≡ xs ++ drop (length xs) l
-laid-start l xs = ap (λ (w : List ℕ). w ++ (xs ++ drop (0 + length xs) l)) (none-taken l) ∙ ap (λ (k : ℕ). xs ++ drop k l) (none-added (length xs))
-  where
-    none-taken : (l : List ℕ) → take 0 l ≡ []
-    none-taken [] = refl
-    none-taken (x ∷ l) = refl
-
-    none-added : (n : ℕ) → 0 + n ≡ n
-    none-added n = omega arith
+use Rattle.writer.specs.Answers.{answerOf, IsTheorem, WrittenOut, Evidence}
 
 -- ---- the length needed
 
@@ -61,25 +47,20 @@ module _ (S : Sequent) (v : Verdict) (t : IsTheorem S v) where
 
   -- ---- the two answers of a theorem
 
-  written-out : (old : List ℕ) (b : Bool) → ltb (length old) (length (derivation S)) ≡ b → writeOut Theorem (v .reductions) (v .closings) (derivation S) old
-      ≡ choose b (record { reply = record { number = 11; values = length (derivation S) ∷ [] }; buffer = old })
-      (record { reply = record { number = 0; values = length (derivation S) ∷ v .reductions ∷ v .closings ∷ [] }; buffer = derivation S ++ drop (length (derivation S)) old })
-  written-out old b e = ap (λ (x : Bool). choose x (record { reply = record { number = 11; values = length (derivation S) ∷ [] }; buffer = old })
-      (record { reply = record { number = 0; values = length (derivation S) ∷ v .reductions ∷ v .closings ∷ [] }; buffer = derivation S ++ drop (length (derivation S)) old })) e
-
   pub no-space : (old : List ℕ) (n : ℕ) → n ≡ 2 * (v .reductions + v .closings) → length old < n → WrittenOut S v old old (NoSpace n)
   no-space old n e h =
-      let w = written-out old true (lt-ltb (length old) (length (derivation S)) (omega (arith, needed))) in
+      let w = no-room (derivation S) (v .reductions ∷ v .closings ∷ []) old (omega (arith, needed)) in
       record {
         reply = ap (λ (m : ℕ). record { number = 11; values = m ∷ [] }) (e ∙ needed) ∙ ap (λ (x : Wrote). x .reply) (sym w);
         buffer = ap (λ (x : Wrote). x .buffer) (sym w);
         taken = λ m u d. let z : _≡_ {A = ℕ} 0 1 = cc in absurd (omega arith);
       }
 
-  pub space : (old new : List ℕ) (n : ℕ) → n ≡ 2 * (v .reductions + v .closings) → n ≤ length old → new ≡ laid old 0 (derivation S) → WrittenOut S v old new (Written n v)
+  pub space : (old new : List ℕ) (n : ℕ) → n ≡ 2 * (v .reductions + v .closings) → n ≤ length old → new ≡ sets old 0 (derivation S) → WrittenOut S v old new (Written n v)
   space old new n e h o =
-      let l : new ≡ derivation S ++ drop (length (derivation S)) old = o ∙ laid-start old (derivation S) in
-      let w = written-out old false (le-ltb (length old) (length (derivation S)) (omega (arith, needed))) in
+      let fits : length (derivation S) ≤ length old = omega (arith, needed) in
+      let l : new ≡ derivation S ++ drop (length (derivation S)) old = o ∙ sets-start old (derivation S) fits in
+      let w = room (derivation S) (v .reductions ∷ v .closings ∷ []) old fits in
       record {
         reply = ap (λ (m : ℕ). record { number = 0; values = m ∷ v .reductions ∷ v .closings ∷ [] }) (e ∙ needed) ∙ ap (λ (x : Wrote). x .reply) (sym w);
         buffer = l ∙ ap (λ (x : Wrote). x .buffer) (sym w);
@@ -89,14 +70,11 @@ module _ (S : Sequent) (v : Verdict) (t : IsTheorem S v) where
 -- ---- the answers of the call
 
 is-theorem : (b : ℕ) (S : Sequent) (v : Verdict) → v ≡ verdict b S → v .kind ≡ Theorem → IsTheorem S v
-is-theorem b S v e h = go (decLt b (reductions (tree S .events)))
-  where
-    go : Dec (b < reductions (tree S .events)) → IsTheorem S v
-    go (yes l) = let z : Spent ≡ Theorem = ap (λ (u : Verdict). u .kind) (sym (e ∙ spent-verdict b S l)) ∙ h in let y : _≡_ {A = ℕ} 0 1 = cc in absurd (omega arith)
-    go (no l) =
-        let w = e ∙ whole-verdict b S (omega arith) in
-        let p : tree S .end ≡ Theorem = ap (λ (u : Verdict). u .kind) (sym w) ∙ h in
-        record { proved = p; counts = w ∙ ap (λ (k : Kind). record { kind = k; reductions = reductions (tree S .events); closings = closings (tree S .events) }) p }
+is-theorem b S v e h =
+    let k : verdict b S .kind ≡ Theorem = ap (λ (u : Verdict). u .kind) (sym e) ∙ h in
+    let p : tree S .end ≡ Theorem = verdict-end b S Theorem k (λ d. let z : _≡_ {A = ℕ} 0 1 = cc in omega arith) in
+    let n : reductions (tree S .events) ≤ b = verdict-whole b S Theorem k (λ d. let z : _≡_ {A = ℕ} 0 1 = cc in omega arith) in
+    record { proved = p; counts = e ∙ whole-verdict b S n ∙ ap (λ (x : Kind). record { kind = x; reductions = reductions (tree S .events); closings = closings (tree S .events) }) p }
 
 -- `Answers` is what the contract says of an answer.
 abbrev pub Answers : List ℕ → ℕ → List ℕ → List ℕ → Writing → Type 0

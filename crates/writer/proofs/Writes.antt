@@ -1,12 +1,12 @@
--- The bytes of a derivation, laid one after the other.
+-- The bytes of a derivation, stored one after the other.
 -- Assumes nothing.
 use mathlib.Core.Path.{_≡_, refl, sym, ap, _∙_, subst}
-use mathlib.Core.List.{List, [], _∷_, _++_, append-assoc, append-nil}
-use Prim.Native.Nat.{ℕ, suc, _+_, _^_, _≤_, _<_}
+use mathlib.Core.List.{List, [], _∷_, _++_, append-nil}
+use Prim.Native.Nat.{ℕ, _+_, _^_, _≤_, _<_}
 use native.Mathlib.Numerals.{add-one}
 use native.Mathlib.Omega.{arith}
-use lib.ListN.{length, take, drop, set, length-append, length-take, length-set}
-use lib.Seq.{take-at, drop-drop, set-split, take-suc-set, drop-set-lt, drop-append-add}
+use lib.ListN.{length, set, length-append, length-take}
+use lib.Seq.{sets}
 use Rattle.calculus.specs.declared.Side.{Side}
 use Rattle.calculus.specs.declared.Kind.{Kind}
 use Rattle.calculus.specs.declared.Kind.the-variants.{Theorem, Refuted, Spent, Full}
@@ -15,6 +15,7 @@ use Rattle.calculus.specs.Syntax.{Compound, Sequent}
 use Rattle.calculus.specs.Table.{premises}
 use Rattle.calculus.specs.Tree.{letters, state, Step, closed, opened, full, reduced, step, Event, reduce, Tree, follow, chain, under, grow, tree, Inner, isClosed, isOpen, isFull, isSpent, isDue, afford, inner}
 use Rattle.calculus.specs.Derivation.{CLOSE, REDUCE, orderCode, writtenAll, derivation}
+use Rattle.calculus.proofs.Buffers.{sets-append}
 use Rattle.calculus.proofs.Derivations.{writtenAll-append}
 use Rattle.calculus.proofs.Trees.{tree-grows, right-step, bit-state}
 use Rattle.prover.proofs.Closings.{bit-below}
@@ -28,34 +29,11 @@ use Rattle.prover.specs.Inner.{innerOf}
 use Rattle.prover.proofs.Finding.{the-type}
 use denote.Enum.Declared.{tagOf}
 use types.Run.{OneOf, miss}
-use Rattle.writer.specs.Answers.{laid}
 
--- ---- laying bytes
+-- ---- storing bytes
 
--- Bytes laid one part after the other are laid as one.
-pub laid-laid : (l : List ℕ) (at : ℕ) (xs ys : List ℕ) → at + length xs + length ys ≤ length l → laid (laid l at xs) (at + length xs) ys ≡ laid l at (xs ++ ys)
-laid-laid l at xs ys h =
-    let n : length (take at l) ≡ at = omega (arith, length-take at l) in
-    let head : laid l at xs ≡ (take at l ++ xs) ++ drop (at + length xs) l = sym (append-assoc (take at l) xs (drop (at + length xs) l)) in
-    let m : length (take at l ++ xs) ≡ at + length xs = omega (arith, length-append (take at l) xs) in
-    let t : take (at + length xs) (laid l at xs) ≡ take at l ++ xs = ap (take (at + length xs)) head ∙ take-at (take at l ++ xs) (drop (at + length xs) l) (at + length xs) m in
-    let d : drop (at + length xs + length ys) (laid l at xs) ≡ drop (at + length (xs ++ ys)) l
-    = ap (drop (at + length xs + length ys)) head ∙ ap (λ (k : ℕ). drop (k + length ys) ((take at l ++ xs) ++ drop (at + length xs) l)) (sym m)
-    ∙ drop-append-add (take at l ++ xs) (drop (at + length xs) l) (length ys) ∙ drop-drop (length ys) (at + length xs) l
-    ∙ ap (λ (k : ℕ). drop k l) (three at xs ys) in
-    rw (t, d) (append-assoc (take at l) xs (ys ++ drop (at + length (xs ++ ys)) l) ∙ ap (λ (w : List ℕ). take at l ++ w) (sym (append-assoc xs ys (drop (at + length (xs ++ ys)) l))))
-  where
-    three : (at : ℕ) (xs ys : List ℕ) → at + length xs + length ys ≡ at + length (xs ++ ys)
-    three at xs ys = omega (arith, length-append xs ys)
-
-pub laid-two : (l : List ℕ) (at a b : ℕ) → at + 2 ≤ length l → set (set l at a) (at + 1) b ≡ laid l at (a ∷ b ∷ [])
-laid-two l at a b h =
-    let e : drop (suc (at + 1)) (set l at a) ≡ drop (at + 2) l = drop-set-lt (suc (at + 1)) l at a (omega arith) ∙ ap (λ (k : ℕ). drop k l) (two at) in
-    let t : take (at + 1) (set l at a) ≡ take at l ++ (a ∷ []) = rw (add-one at) (take-suc-set l at a (omega arith)) in
-    set-split (set l at a) (at + 1) b (omega (arith, length-set l at a)) ∙ rw (t, e) (append-assoc (take at l) (a ∷ []) (b ∷ drop (at + 2) l))
-  where
-    two : (n : ℕ) → suc (n + 1) ≡ n + 2
-    two n = omega arith
+pub sets-two : (l : List ℕ) (at a b : ℕ) → set (set l at a) (at + 1) b ≡ sets l at (a ∷ b ∷ [])
+sets-two l at a b = ap (λ (k : ℕ). set (set l at a) k b) (add-one at)
 
 -- ---- the tree of a theorem, by what the inner step says
 
@@ -149,32 +127,26 @@ module _ (S : Sequent) (s : Side) (i : ℕ) (x : Compound) (due : isDue s i x �
 
 -- ---- a command, and the premises' derivations after it
 
-pub laid-one : (l : List ℕ) (at a b : ℕ) (ds all : List ℕ) → all ≡ a ∷ b ∷ ds → at + length all ≤ length l → laid (laid l at (a ∷ b ∷ [])) (at + 2) ds ≡ laid l at all
-laid-one l at a b ds all e h = laid-laid l at (a ∷ b ∷ []) ds (omega (arith, ap length e)) ∙ ap (laid l at) (sym e)
+pub sets-one : (l : List ℕ) (at a b : ℕ) (ds all : List ℕ) → all ≡ a ∷ b ∷ ds → sets (sets l at (a ∷ b ∷ [])) (at + 2) ds ≡ sets l at all
+sets-one l at a b ds all e = sets-append l at (a ∷ b ∷ []) ds ∙ ap (sets l at) (sym e)
 
-pub laid-both : (l : List ℕ) (at a b : ℕ) (ds es all : List ℕ) → all ≡ a ∷ b ∷ (ds ++ es) → at + length all ≤ length l
-    → laid (laid (laid l at (a ∷ b ∷ [])) (at + 2) ds) (at + 2 + length ds) es ≡ laid l at all
-laid-both l at a b ds es all e h =
-    ap (λ (w : List ℕ). laid w (at + 2 + length ds) es) (laid-laid l at (a ∷ b ∷ []) ds (omega (arith, ap length e, length-append ds es)))
-    ∙ ap (λ (n : ℕ). laid (laid l at (a ∷ b ∷ ds)) n es) (two at ds) ∙ laid-laid l at (a ∷ b ∷ ds) es (omega (arith, ap length e, length-append ds es)) ∙ ap (laid l at) (sym e)
-  where
-    two : (n : ℕ) (xs : List ℕ) → n + 2 + length xs ≡ n + length (a ∷ b ∷ xs)
-    two n xs = omega arith
+sets-both : (l : List ℕ) (at a b : ℕ) (ds es all : List ℕ) → all ≡ a ∷ b ∷ (ds ++ es) → sets (sets (sets l at (a ∷ b ∷ [])) (at + 2) ds) (at + 2 + length ds) es ≡ sets l at all
+sets-both l at a b ds es all e = sets-append (sets l at (a ∷ b ∷ [])) (at + 2) ds es ∙ sets-one l at a b (ds ++ es) all e
 
--- What each of the writes left comes to the whole derivation laid at once.
-pub laid-after : (l l1 last : List ℕ) (at r1 a b : ℕ) (ds ds1 all : List ℕ) → last ≡ laid l1 r1 ds → r1 ≡ at + 2 → l1 ≡ laid l at (a ∷ b ∷ []) → ds ≡ ds1
-    → all ≡ a ∷ b ∷ ds1 → at + length all ≤ length l → last ≡ laid l at all
-laid-after l l1 last at r1 a b ds ds1 all w r o d e h =
-    w ∙ ap (λ (k : ℕ). laid l1 k ds) r ∙ ap (λ (m : List ℕ). laid m (at + 2) ds) o ∙ ap (λ (k : List ℕ). laid (laid l at (a ∷ b ∷ [])) (at + 2) k) d ∙ laid-one l at a b ds1 all e h
+-- What each of the writes left comes to the whole derivation stored at once.
+pub sets-after : (l l1 last : List ℕ) (at r1 a b : ℕ) (ds ds1 all : List ℕ) → last ≡ sets l1 r1 ds → r1 ≡ at + 2 → l1 ≡ sets l at (a ∷ b ∷ []) → ds ≡ ds1
+    → all ≡ a ∷ b ∷ ds1 → last ≡ sets l at all
+sets-after l l1 last at r1 a b ds ds1 all w r o d e =
+    w ∙ ap (λ (k : ℕ). sets l1 k ds) r ∙ ap (λ (m : List ℕ). sets m (at + 2) ds) o ∙ ap (λ (k : List ℕ). sets (sets l at (a ∷ b ∷ [])) (at + 2) k) d ∙ sets-one l at a b ds1 all e
 
-pub laid-after-both : (l l1 l2 last : List ℕ) (at r1 r2 a b : ℕ) (ds ds1 es es1 all : List ℕ) → last ≡ laid l2 r2 es → r2 ≡ r1 + length ds
-    → l2 ≡ laid l1 r1 ds → r1 ≡ at + 2 → l1 ≡ laid l at (a ∷ b ∷ []) → ds ≡ ds1 → es ≡ es1 → all ≡ a ∷ b ∷ (ds1 ++ es1) → at + length all ≤ length l → last ≡ laid l at all
-laid-after-both l l1 l2 last at r1 r2 a b ds ds1 es es1 all w r2e o2 r1e o1 d g e h =
-    let first : l2 ≡ laid (laid l at (a ∷ b ∷ [])) (at + 2) ds1
-    = o2 ∙ ap (λ (k : ℕ). laid l1 k ds) r1e ∙ ap (λ (m : List ℕ). laid m (at + 2) ds) o1 ∙ ap (λ (k : List ℕ). laid (laid l at (a ∷ b ∷ [])) (at + 2) k) d in
+pub sets-after-both : (l l1 l2 last : List ℕ) (at r1 r2 a b : ℕ) (ds ds1 es es1 all : List ℕ) → last ≡ sets l2 r2 es → r2 ≡ r1 + length ds
+    → l2 ≡ sets l1 r1 ds → r1 ≡ at + 2 → l1 ≡ sets l at (a ∷ b ∷ []) → ds ≡ ds1 → es ≡ es1 → all ≡ a ∷ b ∷ (ds1 ++ es1) → last ≡ sets l at all
+sets-after-both l l1 l2 last at r1 r2 a b ds ds1 es es1 all w r2e o2 r1e o1 d g e =
+    let first : l2 ≡ sets (sets l at (a ∷ b ∷ [])) (at + 2) ds1
+    = o2 ∙ ap (λ (k : ℕ). sets l1 k ds) r1e ∙ ap (λ (m : List ℕ). sets m (at + 2) ds) o1 ∙ ap (λ (k : List ℕ). sets (sets l at (a ∷ b ∷ [])) (at + 2) k) d in
     let place : r2 ≡ at + 2 + length ds1 = r2e ∙ ap (λ (k : ℕ). k + length ds) r1e ∙ ap (λ (k : List ℕ). at + 2 + length k) d in
-    w ∙ ap (λ (k : ℕ). laid l2 k es) place ∙ ap (λ (m : List ℕ). laid m (at + 2 + length ds1) es) first
-    ∙ ap (λ (k : List ℕ). laid (laid (laid l at (a ∷ b ∷ [])) (at + 2) ds1) (at + 2 + length ds1) k) g ∙ laid-both l at a b ds1 es1 all e h
+    w ∙ ap (λ (k : ℕ). sets l2 k es) place ∙ ap (λ (m : List ℕ). sets m (at + 2 + length ds1) es) first
+    ∙ ap (λ (k : List ℕ). sets (sets (sets l at (a ∷ b ∷ [])) (at + 2) ds1) (at + 2 + length ds1) k) g ∙ sets-both l at a b ds1 es1 all e
 
 -- A theorem's step is closed or reduced.
 pub no-other : {Q : Type 0} (q : List ℕ) (S : Sequent) (r : Finding) → innerOf q r ≡ inner 1 S → tree S .end ≡ Theorem → OneOf (1 ∷ 2 ∷ 3 ∷ []) (tagOf the-type r) → Q

@@ -1,8 +1,8 @@
 -- The answer of the call that writes a derivation, by document 01's numbers and values, and what the buffer holds.
 use mathlib.Core.Path.{_≡_}
-use mathlib.Core.List.{List, [], _∷_, _++_}
-use Prim.Native.Nat.{ℕ, _+_}
-use lib.ListN.{length, take, drop}
+use mathlib.Core.List.{List, [], _∷_}
+use Prim.Native.Nat.{ℕ}
+use lib.ListN.{take}
 use Rattle.calculus.specs.declared.Kind.{Kind}
 use Rattle.calculus.specs.declared.Kind.the-variants.{Theorem, Refuted, Spent, Full}
 use Rattle.calculus.specs.declared.Verdict.{Verdict}
@@ -30,10 +30,6 @@ answerOf (Refused r) = record { number = numberOf r; values = placeOf r ∷ [] }
 answerOf (NotProved v) = unproved (v .kind) (v .reductions) (v .closings)
 answerOf (NoSpace n) = record { number = NO-SPACE; values = n ∷ [] }
 answerOf (Written n v) = record { number = 0; values = n ∷ v .reductions ∷ v .closings ∷ [] }
-
--- bytes from a place on; the rest keeps its content
-abbrev pub laid : List ℕ → ℕ → List ℕ → List ℕ
-laid l at xs = take at l ++ (xs ++ drop (at + length xs) l)
 
 -- the whole tree's verdict: a theorem, with both counts
 pub record IsTheorem (S : Sequent) (v : Verdict) : Type 0 where

@@ -11,6 +11,7 @@ ghost use mathlib.Core.Path.{_≡_};
 ghost use mathlib.Core.List.{[], _∷_};
 ghost use Prim.Native.Nat.{ℕ, _+_, _≤_, _<_};
 ghost use lib.ListN.{length, take};
+ghost use lib.Seq.{sets};
 ghost use Rattle.calculus.specs.Syntax.{Connective};
 ghost use Rattle.calculus.specs.Bytes.{CONNECTIVE, code, question};
 ghost use Rattle.calculus.specs.Derivation.{REDUCE, orderCode, derivation};
@@ -22,7 +23,7 @@ ghost use Rattle.question.specs.Positions.{formulaAt};
 ghost use Rattle.sequent.specs.View.{sequentOf, Stands, Good};
 ghost use Rattle.sequent.specs.Compounds.{compoundAt, IsCompound};
 ghost use Rattle.prover.specs.Inner.{IsDue};
-ghost use Rattle.writer.specs.Answers.{answerOf, laid, IsTheorem, WrittenOut, Evidence};
+ghost use Rattle.writer.specs.Answers.{answerOf, IsTheorem, WrittenOut, Evidence};
 
 pub enum Writing {
     Refused(Refusal),
@@ -37,7 +38,7 @@ pub enum Writing {
 // A command and its operand; answers the place behind them.
 fn put(buffer: &mut [u8], at: usize, command: u8, operand: u8) -> usize
     requires { ⌜ at + 2 ≤ length (now buffer) ⌝ }
-    ensures { λ r. ⌜ (r ≡ at + 2) × (now (buffer .exit) ≡ laid (now (buffer .entry)) at (command ∷ operand ∷ [])) ⌝ }
+    ensures { λ r. ⌜ (r ≡ at + 2) × (now (buffer .exit) ≡ sets (now (buffer .entry)) at (command ∷ operand ∷ [])) ⌝ }
 {
     buffer[at] = command;
     buffer[at + 1] = operand;
@@ -61,7 +62,7 @@ fn put_reduction(q: &[u8], buffer: &mut [u8], at: usize, side: Side, place: usiz
     ensures { λ r. ⌜
         (r ≡ at + 2)
         × (now (buffer .exit)
-        ≡ laid (now (buffer .entry)) at (orderCode (REDUCE side (compoundAt (now (q .entry)) p .connective)) ∷ place ∷ [])) ⌝ }
+        ≡ sets (now (buffer .entry)) at (orderCode (REDUCE side (compoundAt (now (q .entry)) p .connective)) ∷ place ∷ [])) ⌝ }
 {
     let b = q[wide(p)];
     put(buffer, at, command_of(side, b), place as u8)
@@ -75,7 +76,7 @@ fn emit(q: &[u8], s: Running, buffer: &mut [u8], at: usize) -> usize
         × (at + length (derivation (sequentOf (now q) s)) ≤ length (now buffer)) ⌝ }
     ensures { λ r. ⌜
         (r ≡ at + length (derivation (sequentOf (now (q .entry)) s)))
-        × (now (buffer .exit) ≡ laid (now (buffer .entry)) at (derivation (sequentOf (now (q .entry)) s))) ⌝ }
+        × (now (buffer .exit) ≡ sets (now (buffer .entry)) at (derivation (sequentOf (now (q .entry)) s))) ⌝ }
 {
     let due = prover::step(q, s, 1);
     match due {
@@ -102,7 +103,7 @@ fn emit_reduction(
         × IsDue (now q) s 1 side place p ⌝ }
     ensures { λ r. ⌜
         (r ≡ at + length (derivation (sequentOf (now (q .entry)) s)))
-        × (now (buffer .exit) ≡ laid (now (buffer .entry)) at (derivation (sequentOf (now (q .entry)) s))) ⌝ }
+        × (now (buffer .exit) ≡ sets (now (buffer .entry)) at (derivation (sequentOf (now (q .entry)) s))) ⌝ }
 {
     let i = put_reduction(q, buffer, at, side, place, p);
     let how = reduction::reduction_of(q, p, side);

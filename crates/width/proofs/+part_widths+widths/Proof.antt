@@ -6,8 +6,8 @@ use native.Mathlib.Omega.{arith}
 use lib.ListN.{length, getD}
 use Rattle.calculus.specs.Syntax.{connectives}
 use Rattle.question.proofs.Walks.{well-inside}
-use Rattle.question.proofs.Parts.{letter-at, end-onward}
-use Rattle.width.proofs.Walks.{TwoAt, Room, fit, walk-letter, first-at, not-at, two-at, walk-not, walk-two}
+use Rattle.question.proofs.Parts.{TwoAt, letter-at, first-at, not-at, two-at, end-onward}
+use Rattle.width.proofs.Walks.{Room, fit, walk-letter, first-less, walk-not, walk-two}
 use Prim.Native.Nat.{ℕ, _+_, _*_, _-_, _≤_, _<_}
 use borrow.Fn.Kinds.{In}
 use borrow.Fn.PlainCycle.{Measures, is, falls, and}
@@ -70,12 +70,12 @@ pub +part-widths+widths-spec : {M : Type 1} → statement M
     let at = s .args .at in
     let h = s .pre .1 in
     let f = first-at q at (h .0 .0) (omega (arith, h .1)) in
-    (omega (arith, well-inside q at (h .0 .0), s .pre .0), (f .0, omega (arith, h .0 .1))))
+    (omega (arith, well-inside q at (h .0 .0), s .pre .0), (f .well, omega (arith, first-less q at f, h .0 .1))))
     (λ c.
     let s = c .before .before .before .before .before in
     let h = s .pre .1 in
     rw (c .before .before .before .widths .ensures)
-    (omega (arith, first-at (s .args .q .now) (s .args .at) (h .0 .0) (omega (arith, h .1)) .1, h .0 .1)))
+    (omega (arith, first-less (s .args .q .now) (s .args .at) (first-at (s .args .q .now) (s .args .at) (h .0 .0) (omega (arith, h .1))), h .0 .1)))
     (λ c.
     let s = c .before .before .before .before .before in
     let h = s .pre .1 in

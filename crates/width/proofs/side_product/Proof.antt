@@ -1,6 +1,7 @@
 -- `width::side_product` meets its contract: the formulas from the side's start, as many as its count says, are the side.
 -- Assumes nothing.
-use Rattle.width.proofs.Answers.{SideRead, side-read}
+use Rattle.question.proofs.Questions.{SideRead, side-read}
+use Rattle.width.proofs.Answers.{side-counted}
 use Rattle.width.proofs.side_product.Statement.{statement}
 use Rattle.width.proofs.side_product.Tie as tie
 
@@ -15,5 +16,5 @@ side-product-spec =
     tie.close
     (tie.spec
     (λ c κs. c .before .pre)
-    (λ c κs. let r = read-now c in (r .enough, rw (r .all) (r .counted)))
+    (λ c κs. let s = c .before .before in let r = read-now c in (r .enough, rw (r .all) (side-counted (s .args .q .now) (s .pre .0) (s .args .side))))
     (λ c. rw (read-now (c .before) .all) at (c .formulas-product .ensures)))

@@ -14,8 +14,8 @@ use Rattle.sequent.specs.View.{sequentOf, Compounds}
 use Rattle.sequent.specs.Compounds.{compoundAt}
 use Rattle.reduction.specs.Reduction.{premiseBy}
 use Rattle.prover.proofs.Runs.{at-place, first-fits, first-smaller, first-stands, second-fits, second-smaller, second-stands, premises-are, premises-one, premises-two}
-use Rattle.writer.specs.Answers.{laid}
-use Rattle.writer.proofs.Writes.{closed-small, derivation-closed, derivation-first, derivation-one, derivation-two, due-length, no-other, place-small, laid-after, laid-after-both}
+use lib.Seq.{sets}
+use Rattle.writer.proofs.Writes.{closed-small, derivation-closed, derivation-first, derivation-one, derivation-two, due-length, no-other, place-small, sets-after, sets-after-both}
 use borrow.Fn.Kinds.{In}
 use borrow.Fn.PlainCycle.{Measures, is, falls, and}
 use Rattle.writer.proofs.emit.Reads as emit
@@ -204,7 +204,7 @@ pub +emit+emit-reduction-spec : {M : Type 1} → statement M
     let a = u .before .before .before .before .before .args in
     let p = c .before .before .put .ensures in
     let e = derivation-closed (sequentOf (a .q .now) (a .s)) (u .due .given .0 .0) (closed-now t u) in
-    (omega (arith, p .0, ap length e), p .1 ∙ ap (laid (a .buffer .now) (a .at)) (sym e)))
+    (omega (arith, p .0, ap length e), p .1 ∙ ap (sets (a .buffer .now) (a .at)) (sym e)))
     (λ c. c .before .before .emit-reduction .kept .1 .1 .0)
     (λ c. c .before .before .emit-reduction .ensures)
     (λ c.
@@ -268,7 +268,7 @@ pub +emit+emit-reduction-spec : {M : Type 1} → statement M
     let one = premises-one (a .q .now) (a .s) (h .0) (size-at t b) 1 (a .side) (a .place) (a .p) (h .3 .ready) (r .result) (r .ensures) (c .if1 .taken) in
     let f = derivation-one S (a .side) (a .place) (compoundAt (a .q .now) (a .p)) (h .3 .due) (h .1) _ one in (
       omega (arith, m .0, p .0, ap (λ P. length (derivation P)) e, ap length (f .1)),
-      laid-after (a .buffer .now) _ _ (a .at) _ _ _ _ _ (derivation S) (m .1) (p .0) (p .1) (ap derivation e) (f .1) (h .2),
+      sets-after (a .buffer .now) _ _ (a .at) _ _ _ _ _ (derivation S) (m .1) (p .0) (p .1) (ap derivation e) (f .1),
     ))
     (λ c κs.
     let u = c .before .before .before .before .before .before .before .before in
@@ -314,6 +314,6 @@ pub +emit+emit-reduction-spec : {M : Type 1} → statement M
     let e = ap derivation (first-now t (u .before .before .before .before .before .before .before)) in
     let g = ap derivation (second-now t u) in (
       omega (arith, n .0, m .0, p .0, long-now t u),
-      laid-after-both (a .buffer .now) _ _ _ (a .at) _ _ _ _ _ _ _ _ (derivation (sequentOf (a .q .now) (a .s)))
-          (n .1) (m .0) (m .1) (p .0) (p .1) e g (both-now t u .2) (h .2),
+      sets-after-both (a .buffer .now) _ _ _ (a .at) _ _ _ _ _ _ _ _ (derivation (sequentOf (a .q .now) (a .s)))
+          (n .1) (m .0) (m .1) (p .0) (p .1) e g (both-now t u .2),
     )))

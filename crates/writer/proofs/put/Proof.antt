@@ -1,7 +1,7 @@
 use mathlib.Core.Path.{refl}
 use native.Mathlib.Omega.{arith}
 use lib.ListN.{length-set}
-use Rattle.writer.proofs.Writes.{laid-two}
+use Rattle.writer.proofs.Writes.{sets-two}
 use borrow.Author.Needs.{needs}
 use Rattle.writer.proofs.put.Statement.{statement}
 use Rattle.writer.proofs.put.Tie as tie
@@ -22,7 +22,7 @@ same-length : tie.Need-same-length
 same-length c = search needs
 
 returns : tie.Need-returns
-returns c = (refl, laid-two (c .args .buffer .now) (c .args .at) (c .args .command) (c .args .operand) (c .pre))
+returns c = (refl, sets-two (c .args .buffer .now) (c .args .at) (c .args .command) (c .args .operand))
 
 pub put-spec : {M : Type 1} → statement M
 put-spec =

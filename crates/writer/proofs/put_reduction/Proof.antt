@@ -1,7 +1,7 @@
 use mathlib.Core.List.{[], _∷_}
 use Prim.Native.Nat.{ℕ}
+use lib.Seq.{sets}
 use Rattle.sequent.specs.Compounds.{compoundAt}
-use Rattle.writer.specs.Answers.{laid}
 use mathlib.Core.Path.{sym, ap, _∙_}
 use native.Mathlib.Omega.{arith}
 use Rattle.question.proofs.Walks.{well-inside}
@@ -41,7 +41,7 @@ returns c =
     let w = c .before .before .put .ensures in
     let p = c .before .before .before .before .before .before .wide .ensures in
     let command = c .before .before .before .command-of .ensures (compoundAt (a .q .now) (a .p) .connective) (rw p (sym (x .byte))) in
-    (w .0, w .1 ∙ ap (λ (n : ℕ). laid (a .buffer .now) (a .at) (n ∷ a .place ∷ [])) command)
+    (w .0, w .1 ∙ ap (λ (n : ℕ). sets (a .buffer .now) (a .at) (n ∷ a .place ∷ [])) command)
 
 pub put-reduction-spec : {M : Type 1} → statement M
 put-reduction-spec =

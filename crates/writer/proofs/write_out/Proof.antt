@@ -7,7 +7,7 @@ use Rattle.calculus.specs.Limits.{CONNECTIVES}
 use Rattle.calculus.specs.Tree.{tree}
 use Rattle.calculus.specs.Derivation.{derivation}
 use Rattle.calculus.proofs.Readings.{accepted-question}
-use Rattle.writer.specs.Answers.{laid}
+use lib.Seq.{sets}
 use Rattle.writer.proofs.Answering.{needed, counts-small, no-space, space}
 use borrow.Author.Needs.{needs}
 use Rattle.writer.proofs.write_out.Statement.{statement}
@@ -48,7 +48,7 @@ returns-2 c =
     let s = c .before .before .before .before .before .before .before .before .before in
     let r = c .before .before .before .before .root .ensures in
     let left = c .before .before .before .before .before .if1 .left in
-    let all = c .before .before .emit .ensures .1 ∙ ap (λ P. laid (s .args .buffer .now) 0 (derivation P)) (r .1) in
+    let all = c .before .before .emit .ensures .1 ∙ ap (λ P. sets (s .args .buffer .now) 0 (derivation P)) (r .1) in
     space (question (s .args .q .now)) (s .args .v) (s .pre .1) (s .args .buffer .now) _ _ refl (omega (arith, left)) all
 
 pub write-out-spec : {M : Type 1} → statement M
