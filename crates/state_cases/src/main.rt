@@ -23,6 +23,10 @@ fn answer(a: Listing) {
     }
 }
 
+fn long(n: u32) -> u64 {
+    n as u64
+}
+
 // One line: what a slice of five places or fewer holds.
 fn show(list: &[u32])
     requires { ⌜ length (now list) ≤ 5 ⌝ }
@@ -30,7 +34,7 @@ fn show(list: &[u32])
     let mut numbers = [0u64; 5];
     let mut i = 0;
     while i < list.len() {
-        numbers[i] = list[i] as u64;
+        numbers[i] = long(list[i]);
         i += 1;
     }
     print::write_line(b"slice", &numbers[..i]);
