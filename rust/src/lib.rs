@@ -2,7 +2,8 @@
 //!
 //! A *question* is a sequent in bytes: a left side and a right side, each a list of formulas over the letters 0 to 31.
 //! In a state (which letters are true) it is true if some left formula is false or some right formula is true. If it is
-//! true in every state, it is a *theorem*; otherwise it is *refuted*, by a state that is handed back.
+//! true in every state, it is a *theorem*; otherwise it is *refuted*, by a state that is handed back. All states that
+//! refute it can be listed, too.
 //!
 //! | bytes | meaning |
 //! |---|---|
@@ -16,7 +17,7 @@
 //! bytes.
 //!
 //! ```
-//! use gekunday::{check, decide, derive, width, Kind};
+//! use gekunday::{check, decide, derive, states, width, Kind};
 //!
 //! // From NOT (P OR Q) follows NOT P (Principia 2.45).
 //! let question = [0x10, 1, 0x02, 0x04, 0x01, 0, 0x01, 1, 0x20, 1, 0x02, 0x01, 0];
@@ -33,12 +34,17 @@
 //! let written = derive(&question, size.reductions_bound(), &mut buffer).unwrap();
 //! assert_eq!(written.derivation, [0x52, 0, 0x62, 0, 0x64, 0, 0x41, 0]);
 //! assert_eq!(check(&question, written.derivation), Ok(()));
+//!
+//! // From P OR Q does not follow P AND Q: it fails where only P or only Q is true.
+//! let question = [0x10, 1, 0x04, 0x01, 0, 0x01, 1, 0x20, 1, 0x03, 0x01, 0, 0x01, 1];
+//! let mut buffer = [0; 4];
+//! assert_eq!(states(&question, &mut buffer).unwrap(), [0b01, 0b10]);
 //! # Ok::<(), gekunday::Refusal>(())
 //! ```
 //!
 //! No call panics, uses a heap or keeps anything between calls. What the answers mean is proved of the library; this
 //! wrapper only gives them types. A reply that the library's contract excludes would never read as a theorem, as a
-//! derivation written or as one that passes.
+//! derivation written, as one that passes or as a list of states.
 
 #![no_std]
 #![deny(unsafe_op_in_unsafe_fn, missing_docs)]
@@ -57,6 +63,8 @@ pub const FORMULAS_MAX: usize = 16;
 pub const CONNECTIVES_MAX: usize = 48;
 /// Letters are numbered from 0 to 31.
 pub const LETTERS: usize = 32;
+/// Different letters that a question may have for its states to be listed.
+pub const VARIED_MAX: usize = 16;
 
 /// A side of a sequent.
 #[derive(Clone, Copy, Debug, PartialEq, Eq, Hash)]
@@ -353,6 +361,46 @@ impl fmt::Display for NotPassed {
 
 impl Error for NotPassed {}
 
+/// Why [`states`] listed nothing.
+#[derive(Clone, Copy, Debug, PartialEq, Eq, Hash)]
+pub enum NotListed {
+    /// 1 to 7: the question is refused.
+    Refused(Refusal),
+    /// 12: more than 16 different letters occur.
+    ManyLetters {
+        /// Different letters that occur.
+        letters: u64,
+    },
+    /// 11: the buffer is shorter than the list.
+    NoSpace {
+        /// States that the list has.
+        needed: u64,
+    },
+}
+
+impl NotListed {
+    /// The library's number: 1 to 7, 11 or 12.
+    pub const fn number(self) -> u32 {
+        match self {
+            NotListed::Refused(refusal) => refusal.number(),
+            NotListed::ManyLetters { .. } => 12,
+            NotListed::NoSpace { .. } => 11,
+        }
+    }
+}
+
+impl fmt::Display for NotListed {
+    fn fmt(&self, f: &mut fmt::Formatter<'_>) -> fmt::Result {
+        match self {
+            NotListed::Refused(refusal) => refusal.fmt(f),
+            NotListed::ManyLetters { letters } => write!(f, "many letters: {} different ones", letters),
+            NotListed::NoSpace { needed } => write!(f, "no space: {} states needed", needed),
+        }
+    }
+}
+
+impl Error for NotListed {}
+
 /// Decides a question with at most `budget` reductions.
 ///
 /// The verdict is [`Kind::Spent`] exactly if the question takes more reductions than the budget. A budget of
@@ -501,5 +549,46 @@ pub fn check(question: &[u8], derivation: &[u8]) -> Result<(), NotPassed> {
     match number {
         0 => Ok(()),
         _ => Err(NotPassed::of(number, out[0])),
+    }
+}
+
+/// Lists, in the first places of `buffer`, every state that makes a question false: ascending as numbers, each once.
+///
+/// Only letters that occur in the question vary; all others are false in each state listed. A theorem gives an empty
+/// list. The places behind the list keep their content; under an error all do. A buffer of 2 to the power
+/// [`VARIED_MAX`] places is never too short, and an empty one asks for the number of states alone.
+///
+/// ```
+/// use gekunday::{states, NotListed};
+///
+/// // P OR Q on the left, nothing on the right: false where P or Q is true.
+/// let question = [0x10, 1, 0x04, 0x01, 0, 0x01, 1, 0x20, 0];
+/// assert_eq!(states(&question, &mut []), Err(NotListed::NoSpace { needed: 3 }));
+///
+/// let mut buffer = [0xff; 5];
+/// assert_eq!(states(&question, &mut buffer)?, [0b01, 0b10, 0b11]);
+/// assert_eq!(buffer[3..], [0xff; 2]);
+///
+/// // P on both sides: a theorem.
+/// assert!(states(&[0x10, 1, 0x01, 0, 0x20, 1, 0x01, 0], &mut [])?.is_empty());
+/// # Ok::<(), gekunday::NotListed>(())
+/// ```
+pub fn states<'s>(question: &[u8], buffer: &'s mut [u32]) -> Result<&'s [u32], NotListed> {
+    let mut out = [0; 1];
+    // SAFETY: the pointers and lengths are those of live slices, `buffer` is borrowed for writing, and `out` has 1
+    // word.
+    let number = unsafe {
+        raw::gekunday_states(question.as_ptr(), question.len(), buffer.as_mut_ptr(), buffer.len(), out.as_mut_ptr())
+    };
+    let [first] = out;
+    match number {
+        0 => {
+            let count = usize::try_from(first).unwrap_or(usize::MAX);
+            // The library never says that it listed more than the buffer holds.
+            buffer.get(..count).ok_or(NotListed::NoSpace { needed: first })
+        }
+        11 => Err(NotListed::NoSpace { needed: first }),
+        12 => Err(NotListed::ManyLetters { letters: first }),
+        _ => Err(NotListed::Refused(Refusal::of(number, first))),
     }
 }

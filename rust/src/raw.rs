@@ -46,4 +46,11 @@ extern "C" {
         derivation_length: usize,
         out: *mut u64,
     ) -> u32;
+
+    /// 0: `out` = {number of states}; 12: {number of different letters}; 11: {number of states}; 1 to 7: {place}.
+    ///
+    /// # Safety
+    /// `question` is good for reading `length` bytes, `states` for writing `room` numbers that share no byte with the
+    /// question, `out` for writing 1 word.
+    pub fn gekunday_states(question: *const u8, length: usize, states: *mut u32, room: usize, out: *mut u64) -> u32;
 }

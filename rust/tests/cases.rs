@@ -21,6 +21,7 @@ fn theorem(question: &str, reductions: u64, closings: u64, width: u64, derivatio
     let length = derivation.len() as u64;
     assert_eq!(calls::derive(&question, LARGE, 4096), (0, [length, reductions, closings], derivation.clone()));
     assert_eq!(calls::check(&question, &derivation), (0, [0]));
+    assert_eq!(calls::states(&question, 0), (0, [0], vec![]));
     everything(&question);
 }
 
@@ -218,6 +219,61 @@ fn smallest_derivations_not_written() {
     assert_eq!(calls::derive(&closed, 0, 1), (11, [2, 0, 0], vec![]));
     assert_eq!(calls::derive(&closed, 0, 2), (0, [2, 0, 1], vec![0x41, 5]));
     assert_eq!(calls::derive(&equiv, 1, 5), (11, [6, 0, 0], vec![]));
+}
+
+/// All states that refute document 01's questions, and some others.
+#[test]
+fn every_refuting_state() {
+    for (question, states) in [
+        ("10 00 20 00", &[0][..]),
+        ("10 01 01 00 20 01 01 01", &[1]),
+        ("10 01 04 01 00 01 01 20 01 01 00", &[2]),
+        ("10 01 06 01 00 01 00 20 00", &[0, 1]),
+        (CASE_9, &[3]),
+        // A letter on the left is true, one on the right false.
+        ("10 01 01 1f 20 00", &[1 << 31]),
+        ("10 00 20 01 01 1f", &[0]),
+        // P OR Q on the left, and P OR R: Q does not occur there.
+        ("10 01 04 01 00 01 01 20 00", &[1, 2, 3]),
+        ("10 01 04 01 00 01 02 20 00", &[1, 4, 5]),
+        // P OR Q on the left, P OR (R AND NOT R) on the right: R varies, though nothing depends on it.
+        ("10 01 04 01 00 01 01 20 01 04 01 00 03 01 02 02 01 02", &[2, 6]),
+        // Ascending as numbers, whichever letter is read first.
+        ("10 01 02 03 01 00 01 1f 20 00", &[0, 1, 1 << 31]),
+        ("10 01 02 03 01 1f 01 00 20 00", &[0, 1, 1 << 31]),
+        ("10 00 20 01 05 01 1f 01 1e", &[1 << 31]),
+        ("10 00 20 01 05 01 1e 01 1f", &[1 << 30]),
+    ] {
+        let question = hex(question);
+        let count = states.len() as u64;
+        assert_eq!(calls::states(&question, 8), (0, [count], states.to_vec()), "{:02x?}", question);
+        assert_eq!(calls::states(&question, states.len() - 1), (11, [count], vec![]), "{:02x?}", question);
+        everything(&question);
+    }
+}
+
+/// Numbers 11 and 12 of the list, each at its smallest, and their order.
+#[test]
+fn smallest_lists_refused() {
+    // 11: the number of states.
+    let equiv = hex("10 01 06 01 00 01 00 20 00");
+    assert_eq!(calls::states(&hex("10 00 20 00"), 0), (11, [1], vec![]));
+    assert_eq!(calls::states(&equiv, 0), (11, [2], vec![]));
+    assert_eq!(calls::states(&equiv, 1), (11, [2], vec![]));
+    assert_eq!(calls::states(&equiv, 2), (0, [2], vec![0, 1]));
+    // 12: 16 letters on the left and one on the right. It comes before 11, and also where there is room.
+    let sixteen: Vec<u8> = (0..16).flat_map(|letter| [1, letter]).collect();
+    let seventeen = [&[0x10, 16], &sixteen[..], &[0x20, 1, 1, 16]].concat();
+    assert_eq!(calls::states(&seventeen, 0), (12, [17], vec![]));
+    assert_eq!(calls::states(&seventeen, 1), (12, [17], vec![]));
+    everything(&seventeen);
+    // With the letters on the left alone: one state.
+    let left = [&[0x10, 16], &sixteen[..], &[0x20, 0]].concat();
+    assert_eq!(calls::states(&left, 0), (11, [1], vec![]));
+    assert_eq!(calls::states(&left, 1), (0, [1], vec![0xffff]));
+    // 1 to 7 come before 12.
+    assert_eq!(calls::states(&[&seventeen[..], &[0]].concat(), 0), (7, [38], vec![]));
+    assert_eq!(calls::states(&seventeen[..37], 9), (2, [37], vec![]));
 }
 
 /// The lowest letter closes, wherever it stands.

@@ -5,7 +5,7 @@
 mod common;
 
 use common::prng::Prng;
-use common::{order, questions, tree};
+use common::{order, questions, tree, truth};
 use gekunday::raw;
 use std::ffi::{c_int, c_long, c_void};
 
@@ -112,6 +112,42 @@ fn no_call_goes_beyond_the_lent_bytes() {
     }
 }
 
+/// Nor does the call that lists states touch a place beside the lent ones.
+#[test]
+fn no_list_goes_beyond_the_lent_places() {
+    let mut rng = Prng::new(22);
+    let (mut for_question, mut for_states) = (Fenced::new(), Fenced::new());
+    let mut numbers = [0u64; 13];
+    for round in 0..30_000 {
+        let bytes = match rng.below(4) {
+            0 | 1 => questions::short(&mut rng),
+            2 => questions::near_limits(&mut rng),
+            _ => questions::damaged(&mut rng),
+        };
+        // Long lists are in `states.rs`; some would take more than a page.
+        if truth::read(&bytes).is_ok_and(|table| (11..=16).contains(&table.letters().len())) {
+            continue;
+        }
+        let at_end = round % 4 != 0;
+        let question = for_question.put(&bytes, at_end).cast_const();
+        let length = truth::states(&bytes, usize::MAX).2.len();
+        for room in [0, length.saturating_sub(1), length, length + 3] {
+            let start = for_states.put(&vec![0xa5; 4 * room], at_end).cast::<u32>();
+            let mut out = [7; 1];
+            let number = unsafe { raw::gekunday_states(question, bytes.len(), start, room, out.as_mut_ptr()) };
+            let (due, word, states) = truth::states(&bytes, room);
+            assert_eq!((number, out), (due, word), "{:02x?} with room {}", bytes, room);
+            let lent = unsafe { std::slice::from_raw_parts(start, room) };
+            assert_eq!(lent[..states.len()], states);
+            assert!(lent[states.len()..].iter().all(|&state| state == 0xa5a5_a5a5), "{:02x?}: {}", bytes, room);
+            numbers[number as usize] += 1;
+        }
+    }
+    for number in [0, 2, 3, 11, 12] {
+        assert!(numbers[number] > 1_000, "{} is rare: {:?}", number, numbers);
+    }
+}
+
 /// Lengths, rooms and derivation lengths of 2 to the power 32 and a little more are not taken for small ones. The pages
 /// are never touched, so they take no memory.
 #[test]
@@ -130,6 +166,10 @@ fn lengths_over_32_bits() {
         assert_eq!(raw::gekunday_derive(zeros.start, large, 9, buffer.as_mut_ptr(), 8, out.as_mut_ptr()), 1);
         assert_eq!(buffer, [3; 8]);
         assert_eq!(raw::gekunday_check(zeros.start, large, buffer.as_ptr(), 8, out.as_mut_ptr()), 1);
+        let mut states = [3; 8];
+        out[0] = 7;
+        assert_eq!(raw::gekunday_states(zeros.start, large, states.as_mut_ptr(), 8, out.as_mut_ptr()), 1);
+        assert_eq!((states, out[0]), ([3; 8], 212));
     }
     drop(zeros);
 
@@ -145,5 +185,21 @@ fn lengths_over_32_bits() {
         assert_eq!((number, out[0]), (25, 2));
         let number = raw::gekunday_check(question.as_ptr(), question.len(), buffer.start, 2, out.as_mut_ptr());
         assert_eq!((number, out[0]), (0, 0));
+    }
+}
+
+/// A room of 2 to the power 32 is not taken for 0.
+#[test]
+fn a_room_over_32_bits_for_states() {
+    let room = 1usize << 32;
+    let buffer = Mapped::new(4 * room, READ_WRITE);
+    let states = buffer.start.cast::<u32>();
+    // P OR Q on the left.
+    let question = [0x10, 1, 4, 1, 0, 1, 1, 0x20, 0];
+    let mut out = [7; 1];
+    unsafe {
+        let number = raw::gekunday_states(question.as_ptr(), question.len(), states, room, out.as_mut_ptr());
+        assert_eq!((number, out), (0, [3]));
+        assert_eq!(std::slice::from_raw_parts(states, 5), [1, 2, 3, 0, 0]);
     }
 }

@@ -30,7 +30,8 @@ fn short_questions() {
     let seen = run(1, SHORT, 5_000, short);
     assert_eq!(seen.refused, [0; 8]);
     assert_eq!(seen.large, 0);
-    assert_eq!(seen.tables, SHORT);
+    assert_eq!((seen.tables, seen.listed), (SHORT, SHORT));
+    assert!(seen.states > seen.refuted * 3 / 2, "{:?}", seen);
     assert!(seen.theorems > SHORT / 10 && seen.refuted > SHORT / 10, "{:?}", seen);
     assert!(seen.closings > SHORT / 2, "{:?}", seen);
 }
@@ -40,6 +41,7 @@ fn theorems_by_construction() {
     let seen = run(2, THEOREMS, 2_000, |rng| theorem(rng, 12));
     assert_eq!(seen.refuted, 0);
     assert_eq!(seen.theorems + seen.large, THEOREMS);
+    assert_eq!((seen.listed, seen.states), (THEOREMS, 0));
     assert!(seen.theorems > THEOREMS * 9 / 10, "{:?}", seen);
     assert!(seen.reductions > 20 * THEOREMS && seen.most_reductions > 1_000, "{:?}", seen);
 }
@@ -53,6 +55,8 @@ fn questions_near_the_limits() {
     assert!(seen.theorems > NEAR_LIMITS / 10 && seen.refuted > NEAR_LIMITS / 10, "{:?}", seen);
     assert!(seen.large > NEAR_LIMITS / 100, "{:?}", seen);
     assert!(seen.tables > NEAR_LIMITS / 4, "{:?}", seen);
+    assert!(seen.listed > NEAR_LIMITS / 4 && seen.states > NEAR_LIMITS / 4, "{:?}", seen);
+    assert!(seen.many_letters > NEAR_LIMITS / 10, "{:?}", seen);
 }
 
 #[test]
@@ -62,6 +66,7 @@ fn damaged_questions() {
         assert!(seen.refused[number] > DAMAGED / 200, "{} is rare: {:?}", number, seen);
     }
     assert!(seen.theorems + seen.refuted > DAMAGED / 30, "{:?}", seen);
+    assert!(seen.listed > DAMAGED / 30 && seen.many_letters > DAMAGED / 1_000, "{:?}", seen);
 }
 
 /// Large trees, whole.
@@ -71,7 +76,7 @@ fn large_trees() {
     for letters in 2..=10 {
         examine(&equiv_chains(letters), &mut Prng::new(5), 100_000, &mut seen);
     }
-    assert_eq!((seen.theorems, seen.tables), (9, 9));
+    assert_eq!((seen.theorems, seen.tables, seen.listed), (9, 9, 9));
     assert!(seen.most_reductions > 10_000, "{:?}", seen);
 }
 

@@ -1,6 +1,7 @@
-//! The five calls by their C interface. Each call is watched: the question and the derivation lie between bytes of a
+//! The six calls by their C interface. Each call is watched: the question and the derivation lie between bytes of a
 //! pattern and are compared afterwards; `out` lies between words of a pattern and is full of it before the call; a
-//! lent buffer lies between bytes of a pattern and is full of it, and keeps it wherever no derivation was written.
+//! lent buffer lies between bytes of a pattern and is full of it, and keeps it wherever no derivation was written; the
+//! slice for states likewise, wherever no state was listed.
 
 use gekunday::raw;
 
@@ -90,4 +91,23 @@ pub fn check(question: &[u8], derivation: &[u8]) -> (u32, [u64; 1]) {
     lent.check();
     lent_derivation.check();
     answer
+}
+
+/// Number, word and, under 0, the states that were listed.
+pub fn states(question: &[u8], room: usize) -> (u32, [u64; 1], Vec<u32>) {
+    let pattern = |i: usize| 0xa5c3_960f ^ (i as u32).wrapping_mul(0x9e37_79b1);
+    let mut lent = Lent::new(question);
+    let mut arena: Vec<u32> = (0..room + 2 * EDGE).map(pattern).collect();
+    let start = arena[EDGE..].as_mut_ptr();
+    let (number, words) =
+        with_out::<1>(|out| unsafe { raw::gekunday_states(lent.start(), question.len(), start, room, out) });
+    lent.check();
+    let length = if number == 0 { words[0] as usize } else { 0 };
+    assert!(length <= room, "a list longer than the slice");
+    for (i, &state) in arena.iter().enumerate() {
+        if i < EDGE || i >= EDGE + length {
+            assert_eq!(state, pattern(i), "place {} of a slice with room {} changed under {}", i, room, number);
+        }
+    }
+    (number, words, arena[EDGE..EDGE + length].to_vec())
 }

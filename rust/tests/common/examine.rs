@@ -3,7 +3,7 @@
 use super::prng::Prng;
 use super::tree::{self, End, Question};
 use super::{calls, truth};
-use gekunday::{Kind, NotWritten, Refusal, Side, Verdict};
+use gekunday::{Kind, NotListed, NotWritten, Refusal, Side, Verdict};
 
 /// What has been seen, so that a test can show that its questions were not all of one kind.
 #[derive(Default, Debug)]
@@ -15,6 +15,11 @@ pub struct Seen {
     pub large: u64,
     /// Verdicts that a whole truth table confirmed.
     pub tables: u64,
+    /// Questions whose refuting states were listed, and these states.
+    pub listed: u64,
+    pub states: u64,
+    /// Questions with too many letters for a list.
+    pub many_letters: u64,
     /// Questions with 48 connectives, with 212 bytes, with 16 formulas on a side.
     pub most_connectives: u64,
     pub most_bytes: u64,
@@ -26,6 +31,8 @@ pub struct Seen {
 
 /// Letters up to which the whole table is gone through.
 const TABLE_LETTERS: usize = 12;
+/// Letters up to which the refuting states are listed. (Longer lists are in `states.rs`.)
+const LISTED_LETTERS: usize = 10;
 
 /// Examines one question; its tree is followed up to `limit` reductions.
 pub fn examine(bytes: &[u8], rng: &mut Prng, limit: usize, seen: &mut Seen) {
@@ -53,6 +60,7 @@ fn refusal(bytes: &[u8], (number, place): (u32, u64), rng: &mut Prng) {
     let derivation = [0x41, 0, 0x52, 0, 7];
     let some = &derivation[..rng.below(6)];
     assert_eq!(calls::check(bytes, some), (number, [place]), "check {:02x?}", bytes);
+    assert_eq!(calls::states(bytes, room), (number, [place], vec![]), "states of {:02x?}", bytes);
     for side in 0..3 {
         for place in [0, rng.below(17)] {
             assert_eq!(calls::formula(bytes, side, place), (0, [0, 0]), "formula of {:02x?}", bytes);
@@ -64,6 +72,7 @@ fn refusal(bytes: &[u8], (number, place): (u32, u64), rng: &mut Prng) {
     assert_eq!(gekunday::decide(bytes, budget), Err(refused));
     assert_eq!(gekunday::derive(bytes, budget, &mut [0; 4]), Err(NotWritten::Refused(refused)));
     assert_eq!(gekunday::check(bytes, some), Err(gekunday::NotPassed::Refused(refused)));
+    assert_eq!(gekunday::states(bytes, &mut [0; 4]), Err(NotListed::Refused(refused)));
     assert_eq!(gekunday::formula(bytes, Side::Left, 0), None);
     assert_eq!(matches!(refused, Refusal::TooLong(212)), number == 1);
 }
@@ -73,6 +82,7 @@ fn accepted(bytes: &[u8], question: &Question, table: &truth::Sequent, rng: &mut
     seen.most_bytes += u64::from(bytes.len() == 212);
     seen.most_formulas += u64::from(question.left.len() == 16 || question.right.len() == 16);
     formulas(bytes, question, rng);
+    let listed = listed(bytes, table.letters().len(), seen);
 
     let width = question.width();
     let c = question.connectives;
@@ -119,20 +129,7 @@ fn accepted(bytes: &[u8], question: &Question, table: &truth::Sequent, rng: &mut
     assert!(u128::from(r) <= u128::from(c) * width, "reductions over the bound: {:02x?}", bytes);
     assert!(u128::from(tree.closings) + open <= width, "closings over the bound: {:02x?}", bytes);
 
-    // The truth, from the library's own words.
-    let (_, [refuted, state, ..]) = calls::decide(bytes, u64::MAX);
-    if refuted == 1 {
-        seen.refuted += 1;
-        assert!(!table.true_in(state as u32), "{:02x?} is true in state {}", bytes, state);
-        let occurring = table.letters().iter().fold(0u64, |set, &letter| set | 1 << letter);
-        assert_eq!(state & !occurring, 0, "a letter of the state does not occur in {:02x?}", bytes);
-    } else {
-        seen.theorems += 1;
-    }
-    if table.letters().len() <= TABLE_LETTERS {
-        seen.tables += 1;
-        assert_eq!(table.true_everywhere(), refuted == 0, "truth of {:02x?}", bytes);
-    }
+    truthful(bytes, table, listed, seen);
 
     // The derivation, with rooms on both sides of its length, and budgets on both sides of the reductions.
     let length = tree.derivation.len();
@@ -158,6 +155,73 @@ fn accepted(bytes: &[u8], question: &Question, table: &truth::Sequent, rng: &mut
         assert_eq!(calls::check(bytes, &tree.derivation), (0, [0]), "check {:02x?}", bytes);
         assert_eq!(gekunday::check(bytes, &tree.derivation), Ok(()));
     }
+}
+
+/// The truth, from the library's own words.
+fn truthful(bytes: &[u8], table: &truth::Sequent, listed: Option<Vec<u32>>, seen: &mut Seen) {
+    let (_, [refuted, state, ..]) = calls::decide(bytes, u64::MAX);
+    if refuted == 1 {
+        seen.refuted += 1;
+        assert!(!table.true_in(state as u32), "{:02x?} is true in state {}", bytes, state);
+        let occurring = table.letters().iter().fold(0u64, |set, &letter| set | 1 << letter);
+        assert_eq!(state & !occurring, 0, "a letter of the state does not occur in {:02x?}", bytes);
+    } else {
+        seen.theorems += 1;
+    }
+    if table.letters().len() <= TABLE_LETTERS {
+        seen.tables += 1;
+        assert_eq!(table.true_everywhere(), refuted == 0, "truth of {:02x?}", bytes);
+    }
+    if let Some(states) = listed {
+        assert_eq!(states.is_empty(), refuted == 0, "the list of {:02x?}", bytes);
+        assert!(refuted == 0 || states.contains(&(state as u32)), "the list of {:02x?} lacks {}", bytes, state);
+    }
+}
+
+/// The list of refuting states, where the letters are few. Where they are too many for a list, it is refused.
+fn listed(bytes: &[u8], letters: usize, seen: &mut Seen) -> Option<Vec<u32>> {
+    match letters {
+        0..=LISTED_LETTERS => {
+            let states = states(bytes);
+            seen.listed += 1;
+            seen.states += states.len() as u64;
+            Some(states)
+        }
+        17.. => {
+            seen.many_letters += 1;
+            assert!(states(bytes).is_empty());
+            None
+        }
+        _ => None,
+    }
+}
+
+/// The list of refuting states, with rooms on both sides of its length. Answers the list, empty where it is refused.
+pub fn states(bytes: &[u8]) -> Vec<u32> {
+    let (_, _, states) = truth::states(bytes, usize::MAX);
+    let length = states.len();
+    let mut rooms = vec![0, length.saturating_sub(1), length, length + 4];
+    rooms.dedup();
+    for room in rooms {
+        let expected = truth::states(bytes, room);
+        assert_eq!(calls::states(bytes, room), expected, "states of {:02x?} with room {}", bytes, room);
+        wrapped_states(bytes, room, expected);
+    }
+    states
+}
+
+fn wrapped_states(bytes: &[u8], room: usize, (number, [word], states): (u32, [u64; 1], Vec<u32>)) {
+    const BEFORE: u32 = 0xeeee_eeee;
+    let mut buffer = vec![BEFORE; room];
+    let answer = gekunday::states(bytes, &mut buffer);
+    assert_eq!(answer.map_or_else(NotListed::number, |_| 0), number);
+    match answer {
+        Ok(listed) => assert_eq!(listed, states),
+        Err(NotListed::Refused(refusal)) => assert_eq!(refusal.place(), word),
+        Err(NotListed::ManyLetters { letters }) => assert_eq!(letters, word),
+        Err(NotListed::NoSpace { needed }) => assert_eq!(needed, word),
+    }
+    assert!(buffer[states.len()..].iter().all(|&state| state == BEFORE));
 }
 
 fn wrapped_derive(bytes: &[u8], tree: &tree::Tree, budget: u64) {
