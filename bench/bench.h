@@ -3,7 +3,7 @@
 #include "questions.h"
 #include <stdbool.h>
 
-enum { SETS = 2, MOST_IMPLEMENTATIONS = 16, MOST_ROUNDS = 101 };
+enum { SETS = 2, CALLS = 5, MOST_IMPLEMENTATIONS = 16, MOST_LISTERS = 8, MOST_ROUNDS = 101 };
 
 typedef struct {
     const char *name, *note;
@@ -12,6 +12,14 @@ typedef struct {
     int passes[SETS];
     double best[SETS], median[SETS]; // nanoseconds a question
 } implementation;
+
+typedef struct {
+    const char *name, *note;
+    list_states *states;
+    bool slow; // takes its turn in every fifth round only
+    int passes;
+    double best, median; // nanoseconds a question
+} lister;
 
 typedef struct {
     const char *set;
@@ -28,14 +36,26 @@ typedef struct {
     question_set sets[SETS];
     implementation implementations[MOST_IMPLEMENTATIONS]; // the first is the library under test
     int count, rounds;
+    question_set listed;
+    lister listers[MOST_LISTERS]; // the first is the library under test
+    int listers_count;
     reading_time readings[SETS + 1];
-    stack_use stacks[4];
+    stack_use stacks[CALLS];
 } results;
+
+double now(void); // nanoseconds
+void sum_up(double *samples, int count, double *best, double *median);
+
+// Listing states: who takes part, whether all agree (the run stops if not), and how long they take.
+void add_listers(results *r);
+void check_listing(const results *r);
+void time_listing(results *r);
 
 void write_table(FILE *file, const results *r);
 void write_plot(FILE *file, const results *r);
 
-// The greatest stack depth of each call of the library: over deeply nested questions of 48 connectives, those of the set
-// that have 48, and some of the longest. Depths up to LEAST_DEPTH, the probe's own frame with them, are not told apart.
+// The greatest stack depth of each call of the library: over deeply nested questions of 48 connectives, those near the
+// limits that have 48, and some of the longest; gekunday_states also over those of 16 letters that have 48. Depths up to
+// LEAST_DEPTH, the probe's own frame with them, are not told apart.
 enum { LEAST_DEPTH = 256 };
-void probe_stacks(const question_set *limits, const question_set *longest, stack_use stacks[4]);
+void probe_stacks(results *r, const question_set *longest);

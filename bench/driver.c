@@ -15,7 +15,7 @@ read_call peer_scan_clang;
 #define peer_scan_clang peer_scan
 #endif
 
-static double now(void)
+double now(void)
 {
     struct timespec t;
     clock_gettime(CLOCK_MONOTONIC, &t);
@@ -66,9 +66,7 @@ static void disagree(const char *name, const question *q, uint64_t budget, uint3
     for (int i = 0; i < 4; i++)
         fprintf(stderr, " %llu", (unsigned long long)due_out[i]);
     fprintf(stderr, "\nquestion:");
-    for (int i = 0; i < q->length; i++)
-        fprintf(stderr, " %02x", q->bytes[i]);
-    fprintf(stderr, "\n");
+    write_bytes(stderr, q);
     exit(1);
 }
 
@@ -194,6 +192,13 @@ static int ascending(const void *a, const void *b)
     return (x > y) - (x < y);
 }
 
+void sum_up(double *samples, int count, double *best, double *median)
+{
+    qsort(samples, count, sizeof *samples, ascending);
+    *best = samples[0];
+    *median = samples[count / 2];
+}
+
 // Each sample is so many passes that it takes 20 ms or more. Implementations take turns within a round.
 static void time_all(results *r)
 {
@@ -210,9 +215,8 @@ static void time_all(results *r)
                 samples[k][s][round] = sample(r, &r->implementations[k], s, round);
     for (int k = 0; k < r->count; k++)
         for (int s = 0; s < SETS; s++) {
-            qsort(samples[k][s], r->rounds, sizeof(double), ascending);
-            r->implementations[k].best[s] = samples[k][s][0];
-            r->implementations[k].median[s] = samples[k][s][r->rounds / 2];
+            implementation *m = &r->implementations[k];
+            sum_up(samples[k][s], r->rounds, &m->best[s], &m->median[s]);
         }
 }
 
@@ -266,18 +270,22 @@ int main(int count, char **arguments)
         r.rounds = 15;
     r.sets[0] = editor_set();
     r.sets[1] = limits_set();
+    r.listed = states_set();
     question_set longest = long_set();
     bool lisp = lisp_start(out, r.sets, SETS);
     list_implementations(&r, lisp);
+    add_listers(&r);
     check_cases(&r);
     for (int s = 0; s < SETS; s++)
         check_set(&r, s);
+    check_listing(&r);
     printf("bench: all agree\n\n");
     time_all(&r);
     time_reading(&r.readings[0], &r.sets[0], r.rounds);
     time_reading(&r.readings[1], &r.sets[1], r.rounds);
     time_reading(&r.readings[2], &longest, r.rounds);
-    probe_stacks(&r.sets[1], &longest, r.stacks);
+    time_listing(&r);
+    probe_stacks(&r, &longest);
     FILE *table = open_out(out, "table.md"), *plot = open_out(out, "plot.svg");
     write_table(table, &r);
     write_table(stdout, &r);

@@ -1,4 +1,4 @@
-// What the peers share: the reader, and one signature for everything that decides.
+// What the peers share: the reader, and one signature for everything that decides and one for everything that lists.
 #pragma once
 #include <stddef.h>
 #include <stdint.h>
@@ -8,8 +8,10 @@ extern "C" {
 #endif
 
 enum { MOST_BYTES = 212, MOST_CONNECTIVES = 48, MOST_A_SIDE = 16, MOST_FORMULAS = 80, LETTERS = 32 };
+enum { MOST_VARIED = 16, MOST_STATES = 1 << MOST_VARIED };
 enum { LEFT_SIDE = 0x10, RIGHT_SIDE = 0x20, LETTER = 1, NOT = 2, AND = 3, OR = 4, IMPLIES = 5, EQUIV = 6 };
 enum { TOO_LONG = 1, CUT, WRONG_COMMAND, MANY_FORMULAS, NO_SUCH_LETTER, MANY_CONNECTIVES, LEFT_OVER, FULL, SPENT };
+enum { NO_SPACE = 11, MANY_LETTERS };
 
 // A question as read: where its commands and the formulas of each side start.
 typedef struct {
@@ -31,6 +33,10 @@ void second_parts(const uint8_t *question, const reading *r, uint8_t second[MOST
 // As gekunday_decide. Those that build no tree leave the state and both counts 0.
 typedef uint32_t decide(const uint8_t *question, size_t length, uint64_t budget, uint64_t out[4]);
 decide peer_value_decide, peer_best_decide, peer_sets_decide, truth_table_decide, cadical_decide;
+
+// As gekunday_states.
+typedef uint32_t list_states(const uint8_t *question, size_t length, uint32_t *states, size_t room, uint64_t out[1]);
+list_states peer_each_states, peer_words_states, peer_levels_states;
 
 #ifdef __cplusplus
 }

@@ -1,4 +1,5 @@
-// Questions from fixed seeds. A family proposes questions, and a set keeps those of the wanted size and verdict.
+// Questions from fixed seeds. A family proposes questions, and a set keeps those of the wanted size and verdict, or number
+// of refuting states.
 #include "questions.h"
 #include <stdbool.h>
 #include <stdlib.h>
@@ -298,6 +299,63 @@ question_set long_set(void)
         encode(&s, &set.questions[i]);
     }
     return set;
+}
+
+// The letters of a question renamed, in any order, to some of the 32.
+static void rename_letters(question *q)
+{
+    reading r;
+    uint8_t names[LETTERS] = { 0 };
+    for (int k = 0; k < LETTERS; k++) {
+        int at = below(k + 1);
+        names[k] = names[at];
+        names[at] = k;
+    }
+    peer_read(q->bytes, q->length, &r);
+    for (int i = 0; i < r.commands; i++)
+        if (q->bytes[r.command[i]] == LETTER)
+            q->bytes[r.command[i] + 1] = names[q->bytes[r.command[i] + 1]];
+}
+
+// One question that is false in so many states. With room for none, a peer counts them.
+static uint64_t choose_by_states(question *q, int family, uint64_t least, uint64_t most, const size *z)
+{
+    uint32_t none;
+    uint64_t states[1];
+    for (;;) {
+        sequent s = proposal(family, z);
+        if (!fits(&s, z))
+            continue;
+        encode(&s, q);
+        rename_letters(q);
+        peer_levels_states(q->bytes, q->length, &none, 0, states);
+        if (states[0] >= least && states[0] <= most)
+            return states[0];
+    }
+}
+
+// A fifth each is false in no state, in 1 to 15, 16 to 255, 256 to 4,095, and 4,096 or more. Rules and random sequents take
+// turns; a rewriting hardly ever has so many letters.
+question_set states_set(void)
+{
+    static const uint64_t least[] = { 0, 1, 16, 256, 4096, MOST_STATES + 1 };
+    size z = { 40, 48, 16, 16, 12, 0, 0 };
+    question_set set = set_of("states", "Questions with 16 letters", STATES_QUESTIONS);
+    seed = 65536;
+    for (int i = 0; i < set.count; i++) {
+        int family = i / 5 % 2 ? 2 : 0;
+        uint64_t states = choose_by_states(&set.questions[i], family, least[i % 5], least[i % 5 + 1] - 1, &z);
+        set.states += states;
+        set.refuted += states > 0;
+    }
+    return set;
+}
+
+void write_bytes(FILE *file, const question *q)
+{
+    for (int i = 0; i < q->length; i++)
+        fprintf(file, " %02x", q->bytes[i]);
+    fputc('\n', file);
 }
 
 static int write_formula(FILE *file, const uint8_t *bytes, int at)

@@ -3,7 +3,7 @@
 #include "peer.h"
 #include <stdio.h>
 
-enum { BUDGET = 1000000, EDITOR_QUESTIONS = 400, LIMITS_QUESTIONS = 200, LONG_QUESTIONS = 1000 };
+enum { BUDGET = 1000000, EDITOR_QUESTIONS = 400, LIMITS_QUESTIONS = 200, LONG_QUESTIONS = 1000, STATES_QUESTIONS = 200 };
 
 typedef struct {
     uint8_t bytes[MOST_BYTES];
@@ -15,12 +15,16 @@ typedef struct {
     int count;
     question *questions;
     uint64_t (*answers)[4]; // by peer_value, with budget BUDGET
-    uint64_t reductions, refuted;
+    uint64_t reductions, refuted, states; // of all questions together; states only in states_set
 } question_set;
 
 question_set editor_set(void); // 6 to 14 connectives
 question_set limits_set(void); // 36 to 48 connectives, 2,000 reductions and more
 question_set long_set(void);   // 212 bytes, for reading; their trees can be too large to decide
+question_set states_set(void); // 16 letters, 40 to 48 connectives, for listing; the same holds of their trees
+
+// The question's bytes in hexadecimal.
+void write_bytes(FILE *file, const question *q);
 
 // The question as DR 34 writes it: (ARROW (...) (...)).
 void write_lisp(FILE *file, const question *q);

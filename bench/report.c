@@ -45,13 +45,42 @@ static double ratio(const results *r, int s, const char *peer)
     return r->implementations[0].best[s] / least;
 }
 
+static double listing_ratio(const results *r, const char *peer)
+{
+    double least = INFINITY;
+    for (int k = 0; k < r->listers_count; k++)
+        if (!strncmp(r->listers[k].name, peer, strlen(peer)))
+            least = fmin(least, r->listers[k].best);
+    return r->listers[0].best / least;
+}
+
 static void write_headline(FILE *file, const results *r)
 {
     static const char *const peers[] = { "peer_value", "peer_best", "peer_sets" };
+    static const char *const listers[] = { "peer_each", "peer_words", "peer_levels" };
     fprintf(file, "Against the faster build of each C peer:\n\n");
     for (int i = 0; i < 3; i++)
         fprintf(file, "- %s: **%.2f** on editor-size questions, **%.2f** near the limits\n", peers[i],
                 ratio(r, 0, peers[i]), ratio(r, 1, peers[i]));
+    for (int i = 0; i < 3; i++)
+        fprintf(file, "- %s: **%.2f** on listing the states\n", listers[i], listing_ratio(r, listers[i]));
+    fprintf(file, "\n");
+}
+
+static void write_listing(FILE *file, const results *r)
+{
+    const question_set *set = &r->listed;
+    fprintf(file, "## Listing the states\n\n");
+    fprintf(file, "%d questions with 16 letters, %d of them refuted; %.0f states listed a question on average.\n\n",
+            set->count, (int)set->refuted, (double)set->states / set->count);
+    fprintf(file, "| implementation | what | a question | median | gekunday / it |\n|---|---|---:|---:|---:|\n");
+    for (int k = 0; k < r->listers_count; k++) {
+        const lister *l = &r->listers[k];
+        char best[32], median[32];
+        format_time(best, sizeof best, l->best);
+        format_time(median, sizeof median, l->median);
+        fprintf(file, "| %s | %s | %s | %s | %.2f |\n", l->name, l->note, best, median, r->listers[0].best / l->best);
+    }
     fprintf(file, "\n");
 }
 
@@ -77,9 +106,10 @@ void write_table(FILE *file, const results *r)
     write_headline(file, r);
     for (int s = 0; s < SETS; s++)
         write_set(file, r, s);
+    write_listing(file, r);
     write_readings(file, r);
     fprintf(file, "\n## Stack\n\n| call | greatest depth | questions tried |\n|---|---:|---:|\n");
-    for (int i = 0; i < 4; i++) {
+    for (int i = 0; i < CALLS; i++) {
         const stack_use *u = &r->stacks[i];
         if (u->questions)
             fprintf(file, "| %s | %s%zu bytes | %d |\n", u->call, u->bytes > LEAST_DEPTH ? "" : "at most ", u->bytes,

@@ -9,12 +9,13 @@
 
 enum { STACK = 1 << 20, PAINT = 0xa5, ROOM = 1 << 21 };
 
-typedef enum { DECIDE, DERIVE, CHECK, WIDTH } call;
+typedef enum { DECIDE, DERIVE, CHECK, WIDTH, STATES } call;
 
 typedef struct {
     call call;
     const question *question;
     uint8_t *stack, *buffer;
+    uint32_t *states;
     size_t length, depth;
 } probe;
 
@@ -28,6 +29,7 @@ static void run_call(probe *p)
     case DERIVE: p->length = gekunday_derive(bytes, length, BUDGET, p->buffer, ROOM, out) ? 0 : out[0]; break;
     case CHECK: gekunday_check(bytes, length, p->buffer, p->length, out); break;
     case WIDTH: gekunday_width(bytes, length, out); break;
+    case STATES: gekunday_states(bytes, length, p->states, MOST_STATES, out); break;
     }
 }
 
@@ -69,7 +71,7 @@ static void note(stack_use *use, probe *p, call c)
         use->bytes = depth;
 }
 
-static void probe_question(probe *p, const question *q, stack_use stacks[4])
+static void probe_question(probe *p, const question *q, stack_use stacks[CALLS])
 {
     p->question = q;
     p->length = 0;
@@ -78,6 +80,13 @@ static void probe_question(probe *p, const question *q, stack_use stacks[4])
     if (p->length > 0)
         note(&stacks[CHECK], p, CHECK);
     note(&stacks[WIDTH], p, WIDTH);
+    note(&stacks[STATES], p, STATES);
+}
+
+static bool has_most_connectives(const question *q)
+{
+    reading r;
+    return peer_read(q->bytes, q->length, &r) == 0 && r.connectives == MOST_CONNECTIVES;
 }
 
 // 48 connectives nested as deep as they go, in the first part or the last: in one formula on the right, or 24 on each side
@@ -103,26 +112,32 @@ static question nested(int connective, bool last, bool both)
     return q;
 }
 
-void probe_stacks(const question_set *limits, const question_set *longest, stack_use stacks[4])
+void probe_stacks(results *r, const question_set *longest)
 {
-    static const char *const names[] = { "gekunday_decide", "gekunday_derive", "gekunday_check", "gekunday_width" };
+    static const char *const names[] = { "gekunday_decide", "gekunday_derive", "gekunday_check", "gekunday_width",
+                                         "gekunday_states" };
+    const question_set *limits = &r->sets[1], *listed = &r->listed;
+    stack_use *stacks = r->stacks;
     probe p = { .stack = mmap(0, STACK, PROT_READ | PROT_WRITE, MAP_PRIVATE | MAP_ANONYMOUS, -1, 0),
-                .buffer = malloc(ROOM) };
-    for (int i = 0; i < 4; i++)
+                .buffer = malloc(ROOM), .states = malloc(MOST_STATES * sizeof(uint32_t)) };
+    for (int i = 0; i < CALLS; i++)
         stacks[i] = (stack_use){ .call = names[i] };
     for (int connective = NOT; connective <= EQUIV; connective++)
         for (int way = 0; way < 4; way++) {
             question q = nested(connective, way & 1, way & 2);
             probe_question(&p, &q, stacks);
         }
-    for (int i = 0; i < limits->count; i++) {
-        reading r;
-        const question *q = &limits->questions[i];
-        if (peer_read(q->bytes, q->length, &r) == 0 && r.connectives == MOST_CONNECTIVES)
-            probe_question(&p, q, stacks);
+    for (int i = 0; i < limits->count; i++)
+        if (has_most_connectives(&limits->questions[i]))
+            probe_question(&p, &limits->questions[i], stacks);
+    for (int i = 0; i < listed->count; i++) {
+        p.question = &listed->questions[i];
+        if (has_most_connectives(p.question))
+            note(&stacks[STATES], &p, STATES);
     }
     for (int i = 0; i < longest->count; i += 20)
         probe_question(&p, &longest->questions[i], stacks);
     free(p.buffer);
+    free(p.states);
     munmap(p.stack, STACK);
 }

@@ -4,7 +4,7 @@
  * A question is a sequent: a left side and a right side, each a list of formulas.  In a state (which letters are true)
  * it is true if some left formula is false or some right formula is true.  A question that is true in every state is a
  * theorem; every other one is refuted, and the library names a state that makes each left formula true and each right
- * formula false.
+ * formula false, or all such states.
  *
  * THE BYTES OF A QUESTION (hexadecimal)
  *
@@ -25,12 +25,12 @@
  *   - It returns a number: 0 where there is no refusal, otherwise one of the GEKUNDAY_... numbers below.
  *   - It writes every word of `out`.  Words that the comment at the call does not name are 0.
  *   - It uses no heap, no globals and no files; calls from several threads do not disturb each other.
- *   - It changes no lent byte but those that gekunday_derive writes when it returns 0.  A refused call leaves each lent
- *     byte as it was.
+ *   - It changes no lent byte but those of the derivation that gekunday_derive writes, and of the states that
+ *     gekunday_states lists, when it returns 0.  A refused call leaves each lent byte as it was.
  *   - It ends, for all bytes and all lengths.  There is nothing that the caller must check first: only that each pointer
- *     is good for the length that goes with it (any pointer that is not null will do for a length of 0) and that `out`
- *     has the words its type says.  A question or derivation may share bytes with another one, but not with the buffer
- *     or with `out`.
+ *     is good for the length or room that goes with it (for 0, any pointer that is not null will do) and that `out` has
+ *     the words its type says.  A question or derivation may share bytes with another one, but not with the buffer of a
+ *     derivation or of states, or with `out`; nor may such a buffer share any with `out`.
  *
  * HOW LONG A CALL CAN TAKE
  *
@@ -41,6 +41,8 @@
  *   a derivation has 2 * (reductions + closings) bytes, so at most 2 * (c * W + W): GEKUNDAY_DERIVATION_MAX(W, c).
  *
  * W is at most 2 to the power c, so these bounds fit 64 bits.  A budget of c * W is never spent.
+ *
+ * gekunday_states has no budget.  It tries the states of the letters that occur, at most 65,536, whatever W is.
  */
 #ifndef GEKUNDAY_H
 #define GEKUNDAY_H
@@ -58,6 +60,8 @@ extern "C" {
 #define GEKUNDAY_FORMULAS_MAX 16     /* formulas on one side */
 #define GEKUNDAY_CONNECTIVES_MAX 48  /* connectives over both sides */
 #define GEKUNDAY_LETTERS 32          /* letters are numbered 0 to 31 */
+#define GEKUNDAY_VARIED_MAX 16       /* different letters that a question may have for its states to be listed */
+#define GEKUNDAY_STATES_MAX 65536    /* states in a list: a buffer of so many is never too short */
 
 /* The longest derivation, in bytes, of a question of width W with c connectives (both as gekunday_width answers). */
 #define GEKUNDAY_DERIVATION_MAX(W, c) (2u * ((uint64_t)(c) * (uint64_t)(W) + (uint64_t)(W)))
@@ -100,7 +104,10 @@ extern "C" {
 #define GEKUNDAY_FULL 8             /* a premise would hold more than 80 formulas; the limits above leave no such question */
 #define GEKUNDAY_SPENT 9            /* the budget is below the reductions that the question takes */
 #define GEKUNDAY_NOT_PROVED 10      /* a derivation is asked of a refuted question */
-#define GEKUNDAY_NO_SPACE 11        /* the buffer is shorter than the derivation */
+#define GEKUNDAY_NO_SPACE 11        /* the buffer is shorter than the derivation or the list of states */
+
+/* States that were not listed; looked for before NO_SPACE. */
+#define GEKUNDAY_MANY_LETTERS 12    /* more than 16 different letters occur in the question */
 
 /* A derivation that does not pass.  The place counts from the derivation's first byte. */
 #define GEKUNDAY_CHECK_CUT 20             /* fewer than two bytes left while a sequent waits; place: the command's */
@@ -166,6 +173,21 @@ uint32_t gekunday_derive(const uint8_t *question, size_t length, uint64_t budget
  */
 uint32_t gekunday_check(const uint8_t *question, size_t length, const uint8_t *derivation, size_t derivation_length,
                         uint64_t out[1]);
+
+/*
+ * Lists every state that makes a question false, ascending as numbers, each once, in the first places of `states`, which
+ * has room for `room` of them.  The places behind the list keep their content.
+ *
+ *   0: out = {number of states}; 12: {number of different letters}; 11: {number of states}; 1 to 7: {place}
+ *
+ * A state has bit k set exactly if letter k is true in it.  Only letters that occur in the question vary; all others are
+ * false in every state listed.  For a theorem the list is empty.  12 (MANY_LETTERS) if more than 16 different letters
+ * occur.
+ *
+ * Under any number but 0 the whole buffer keeps its content.  A buffer of GEKUNDAY_STATES_MAX is never too short; with a
+ * room of 0 the call answers how many states there are.
+ */
+uint32_t gekunday_states(const uint8_t *question, size_t length, uint32_t *states, size_t room, uint64_t out[1]);
 
 #ifdef __cplusplus
 }
