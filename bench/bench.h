@@ -3,7 +3,7 @@
 #include "questions.h"
 #include <stdbool.h>
 
-enum { SETS = 2, CALLS = 5, MOST_IMPLEMENTATIONS = 16, MOST_LISTERS = 8, MOST_ROUNDS = 101 };
+enum { SETS = 2, CALLS = 5, MOST_IMPLEMENTATIONS = 16, MOST_LISTERS = 16, MOST_ROUNDS = 101 };
 
 typedef struct {
     const char *name, *note;

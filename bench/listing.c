@@ -5,7 +5,7 @@
 #include <string.h>
 
 #ifdef WITH_CLANG
-list_states peer_each_states_clang, peer_words_states_clang, peer_levels_states_clang;
+list_states peer_each_states_clang, peer_table_states_clang, peer_words_states_clang, peer_levels_states_clang;
 #endif
 
 enum { FILL = 0xa5, FIRST_PEER = 1 };
@@ -22,7 +22,11 @@ void add_listers(results *r)
 #ifdef WITH_CLANG
     add(r, "peer_each (clang)", "the same", peer_each_states_clang, true);
 #endif
-    add(r, "peer_words (" CC_NAME ")", "C, 64 states a word", peer_words_states, false);
+    add(r, "peer_table (" CC_NAME ")", "C, 64 states a word", peer_table_states, false);
+#ifdef WITH_CLANG
+    add(r, "peer_table (clang)", "the same", peer_table_states_clang, false);
+#endif
+    add(r, "peer_words (" CC_NAME ")", "C, the same over a list of steps", peer_words_states, false);
 #ifdef WITH_CLANG
     add(r, "peer_words (clang)", "the same", peer_words_states_clang, false);
 #endif

@@ -30,13 +30,21 @@ uint32_t peer_scan(const uint8_t *question, size_t length, uint64_t out[2]);
 // The start of the second part of each connective with two parts.
 void second_parts(const uint8_t *question, const reading *r, uint8_t second[MOST_BYTES]);
 
+// The truth table's program, and the states of a word in which the sequent is false.
+typedef struct {
+    uint8_t operation[128], letter[128];
+    int count;
+} truth_program;
+void truth_compile(const uint8_t *question, const reading *r, const uint8_t index[LETTERS], truth_program *p);
+uint64_t truth_falsified(const truth_program *p, const reading *r, const uint64_t value[LETTERS]);
+
 // As gekunday_decide. Those that build no tree leave the state and both counts 0.
 typedef uint32_t decide(const uint8_t *question, size_t length, uint64_t budget, uint64_t out[4]);
 decide peer_value_decide, peer_best_decide, peer_sets_decide, truth_table_decide, cadical_decide;
 
 // As gekunday_states.
 typedef uint32_t list_states(const uint8_t *question, size_t length, uint32_t *states, size_t room, uint64_t out[1]);
-list_states peer_each_states, peer_words_states, peer_levels_states;
+list_states peer_each_states, peer_table_states, peer_words_states, peer_levels_states;
 
 #ifdef __cplusplus
 }

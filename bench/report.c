@@ -57,12 +57,12 @@ static double listing_ratio(const results *r, const char *peer)
 static void write_headline(FILE *file, const results *r)
 {
     static const char *const peers[] = { "peer_value", "peer_best", "peer_sets" };
-    static const char *const listers[] = { "peer_each", "peer_words", "peer_levels" };
+    static const char *const listers[] = { "peer_each", "peer_table", "peer_words", "peer_levels" };
     fprintf(file, "Against the faster build of each C peer:\n\n");
     for (int i = 0; i < 3; i++)
         fprintf(file, "- %s: **%.2f** on editor-size questions, **%.2f** near the limits\n", peers[i],
                 ratio(r, 0, peers[i]), ratio(r, 1, peers[i]));
-    for (int i = 0; i < 3; i++)
+    for (int i = 0; i < 4; i++)
         fprintf(file, "- %s: **%.2f** on listing the states\n", listers[i], listing_ratio(r, listers[i]));
     fprintf(file, "\n");
 }
