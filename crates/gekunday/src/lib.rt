@@ -345,7 +345,7 @@ pub extern "C" fn gekunday_states(q: &[u8], list: &mut [u32], out: &mut [u64; 1]
     ensures words { λ r. ⌜ now (out .exit) ≡ filled 1 (listStates (now (q .entry)) (now (list .entry)) .reply .values) ⌝ }
     ensures written { λ r. ⌜ now (list .exit) ≡ listStates (now (q .entry)) (now (list .entry)) .buffer ⌝ }
 {
-    let w = listing_words(states::refuting_states(q, list));
-    *out = [w.first];
-    w.number
+    let l = listing_words(states::refuting_states(q, list));
+    *out = [l.first];
+    l.number
 }
