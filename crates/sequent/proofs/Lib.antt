@@ -1,7 +1,13 @@
 -- The laws behind the functions' proofs. Assumes nothing.
-pub mod Lanes
+pub mod Lists
+pub mod Namings
 pub mod Rows
-pub mod Changes
 pub mod Masks
+pub mod Passes
+pub mod Letters
 pub mod Premises
-pub mod Compounds
+pub mod Rules
+pub mod Firsts
+pub mod Restarts
+pub mod Pushes
+pub mod Goods

@@ -14,7 +14,6 @@ use Rattle.calculus.specs.Table.{splice}
 use Rattle.calculus.specs.Tree.{letters, state}
 use Rattle.calculus.proofs.Folds.{fold-append}
 use Rattle.calculus.proofs.Trees.{light-or}
-use Rattle.sequent.specs.View.{bitOf}
 
 or-half : (a b : ℕ) → bitOr a b / 2 ≡ bitOr (a / 2) (b / 2)
 or-half a b = let e = or-step a b in omega (arith, e)
@@ -43,8 +42,14 @@ or-assoc a b c =
 abbrev pub OR : Monoid ℕ
 OR = record { op = bitOr; unit = 0; unit-left = or-zero-l; assoc = or-assoc; comm = or-comm }
 
+-- a letter's bit
+abbrev pub letterBit : Formula → ℕ
+letterBit (letter k) = 2 ^ k
+letterBit (neg x) = 0
+letterBit (join b x y) = 0
+
 -- A side's letters, as document 01's state has them, are the fold of its formulas' bits.
-pub state-fold : (xs : List Formula) → state (letters xs) ≡ fold OR bitOf xs
+pub state-fold : (xs : List Formula) → state (letters xs) ≡ fold OR letterBit xs
 state-fold [] = refl
 state-fold (letter k ∷ xs) = sym (light-or k (state (letters xs))) ∙ ap (bitOr (2 ^ k)) (state-fold xs)
 state-fold (neg x ∷ xs) = state-fold xs ∙ sym (or-zero-l _)

@@ -1,265 +1,165 @@
--- A premise of the running sequent is the premise of the sequent that it stands for.
+-- The premise that one pass makes, and its stores.
 -- Assumes nothing.
 use mathlib.Core.Path.{_≡_, refl, sym, ap, _∙_}
-use mathlib.Core.Bool.{Bool, true, false}
-use mathlib.Core.Option.{some}
-use mathlib.Core.List.{List, [], _∷_, _++_, map, map-append}
-use Prim.Native.Nat.{ℕ, zero, suc, _+_, _*_, _%_, _^_, _≤_, _<_}
-use native.Mathlib.Nat.{one-mul, mod-eq-of-lt}
+use mathlib.Core.List.{List, _++_, append-assoc}
+use Prim.Native.Nat.{ℕ, suc, _+_, _-_, _≤_, _<_}
 use native.Mathlib.Omega.{arith}
-use lib.Bits.{bitOr, or-zero-r}
-use lib.Dec.{eqb}
-use lib.ListN.{length, getD, getElem?, length-append, length-take}
-use lib.Pow.{pow-lt}
-use borrow.Author.Tests.{eq-eqb, ne-eqb}
+use lib.Bits.{bitOr}
+use lib.ListN.{length, take, drop, length-append, length-take, take-append-drop}
+use lib.Seq.{slice, length-slice, take-add, take-at, take-take, drop-at, drop-append-le, drop-drop, length-take-le}
 use Rattle.calculus.specs.declared.Side.{Side}
 use Rattle.calculus.specs.declared.Side.the-variants.{Left, Right}
-use Rattle.calculus.specs.Fold.{fold, SUM, Each}
-use Rattle.calculus.specs.Limits.{ROOM, LETTERS}
-use Rattle.calculus.specs.Syntax.{other, Connective, NOT, two, Formula, letter, Compound, compound, whole, size}
-use Rattle.calculus.specs.Table.{L, R, on, splice, premise}
-use Rattle.calculus.specs.Tree.{letters, state}
-use Rattle.calculus.proofs.Folds.{each-append}
-use Rattle.question.specs.Positions.{formulaAt}
-use Rattle.question.proofs.Parts.{At, a-letter, a-compound, at-position, letter-at}
-use Rattle.sequent.specs.declared.Running.{Running}
-use Rattle.sequent.specs.declared.Parts.{Parts}
+use Rattle.calculus.specs.Limits.{ROOM}
+use Rattle.calculus.specs.Syntax.{size}
+use Rattle.calculus.specs.Table.{on, splice, premise}
 use Rattle.sequent.specs.declared.Placing.{Placing}
-use Rattle.sequent.specs.View.{lane, countOf, maskOf, view, places, formulasOf, Stands, Good, Changed, partsView, bitOf, Sorted, Compounds, Pushed}
-use Rattle.sequent.specs.Rule.{sideCode, keep, partsOn, placed}
-use Rattle.sequent.proofs.Lanes.{lane-length}
-use Rattle.sequent.proofs.Changes.{sides, splice-length}
-use Rattle.sequent.proofs.Masks.{OR, state-fold, fold-splice}
-use Rattle.calculus.proofs.Folds.{fold-append}
+use Rattle.sequent.specs.Rule.{partsOn, placed}
+use Rattle.sequent.proofs.Lists.{on-left, on-right, ones}
+use Rattle.sequent.specs.declared.Pass.{Pass}
+use Rattle.sequent.specs.declared.Running.{Running}
+use Rattle.sequent.specs.declared.Built.{Built}
+use Rattle.sequent.specs.View.{view, countOf, endOf, maskOf, lettersOf, Lettered}
+use Rattle.sequent.specs.Passes.{Fits, Stored, listed, Builds}
+use Rattle.sequent.proofs.Passes.{pass}
 
--- ---- the bit of a letter
+-- ---- parts of a list
 
-pub letter-is : (q : List ℕ) (p : ℕ) → Stands q p → getD q p 0 ≡ 1 → (formulaAt q p ≡ letter (getD q (p + 1) 0)) × (getD q (p + 1) 0 < LETTERS)
-letter-is q p h e =
-    let a = letter-at q p (h .well) (λ l. omega arith) in
-    (a .stands, rw (a .stands) at (h .lettered))
+pub take-drop : (a n : ℕ) (l : List ℕ) → a ≤ length l → take n (drop a l) ≡ slice a (a + n) l
+take-drop a n l h = sym (ap (drop a) (take-add a n l) ∙ drop-at (take a l) (take n (drop a l)) a (length-take-le a l h))
 
-pub letter-bit : (q : List ℕ) (p : ℕ) → Stands q p → getD q p 0 ≡ 1 → 1 * 2 ^ getD q (p + 1) 0 % 2 ^ LETTERS ≡ bitOf (formulaAt q p)
-letter-bit q p h e =
-    let a = letter-is q p h e in
-    rw (a .0, one-mul (2 ^ getD q (p + 1) 0)) (mod-eq-of-lt (pow-lt (a .1)))
+pub slice-join : (a b c : ℕ) (l : List ℕ) → a ≤ b → b ≤ c → b ≤ length l → slice a b l ++ slice b c l ≡ slice a c l
+slice-join a b c l h k r =
+    sym (ap (drop a) (sym (take-append-drop b (take c l)) ∙ ap (λ (v : List ℕ). v ++ slice b c l) (take-take b c l k))
+    ∙ drop-append-le a (take b l) (slice b c l) (omega (arith, length-take-le b l r)))
 
-pub bit-whole : (x : Compound) → bitOf (whole x) ≡ 0
-bit-whole x = go (x .connective)
-  where
-    go : (k : Connective) → bitOf (compound k (x .f) (x .g)) ≡ 0
-    go NOT = refl
-    go (two o) = refl
+-- a place of a part makes way
+splice-slice : (a i j e : ℕ) (ps l : List ℕ) → j ≡ a + i → j < e → e ≤ length l
+    → splice i ps (slice a e l) ≡ slice a j l ++ (ps ++ slice (j + 1) e l)
+splice-slice a i j e ps l q h k =
+    let b : take i (slice a e l) ≡ slice a j l
+    = take-drop a i (take e l) (omega (arith, length-take-le e l k)) ∙ ap (drop a) (take-take (a + i) e l (omega arith)) ∙ ap (λ (n : ℕ). slice a n l) (sym q) in
+    let n : a + suc i ≡ j + 1 = omega arith in
+    let d : drop (suc i) (slice a e l) ≡ slice (j + 1) e l = drop-drop (suc i) a (take e l) ∙ ap (λ (m : ℕ). drop m (take e l)) n in
+    ap (λ (v : List ℕ). v ++ (ps ++ drop (suc i) (slice a e l))) b ∙ ap (λ (v : List ℕ). slice a j l ++ (ps ++ v)) d
 
-pub no-bit : (q : List ℕ) (p : ℕ) → Stands q p → (getD q p 0 ≡ 1 → ⊥) → 0 ≡ bitOf (formulaAt q p)
-no-bit q p h n = go (at-position q p (h .well))
-  where
-    go : At q p → 0 ≡ bitOf (formulaAt q p)
-    go (a-letter a) = absurd (n (a .byte))
-    go (a-compound x a) = sym (ap bitOf (a .stands) ∙ bit-whole x)
+pub splice-length : (a j e : ℕ) (ps l : List ℕ) → a ≤ j → j < e → e ≤ length l → length (slice a j l ++ (ps ++ slice (j + 1) e l)) + a + 1 ≡ e + length ps
+splice-length a j e ps l h k r =
+    omega (arith, length-append (slice a j l) (ps ++ slice (j + 1) e l), length-append ps (slice (j + 1) e l), length-slice a j l (omega arith), length-slice (j + 1) e l r)
 
--- ---- the parts on a side
+pub end-length : (a e : ℕ) (ps l : List ℕ) → a ≤ e → e ≤ length l → length (slice a e l ++ ps) + a ≡ e + length ps
+end-length a e ps l h k = omega (arith, length-append (slice a e l) ps, length-slice a e l k)
 
-module _ (q : List ℕ) (t : Side) (p : Placing) (f g s : ℕ) (e : s ≡ sideCode t) where
-  pub sorted-two : p .f ≡ s → p .g ≡ s → (a b : ℕ) → a ≡ bitOf (formulaAt q f) → b ≡ bitOf (formulaAt q g)
-      → Sorted q (partsOn t p f g) (record { count = 2; first = f; second = g; mask = bitOr a b })
-  sorted-two h k a b i j =
-      let w : partsOn t p f g ≡ f ∷ g ∷ [] = rw (eq-eqb (p .f) (sideCode t) (h ∙ e), eq-eqb (p .g) (sideCode t) (k ∙ e)) in
-      rw w (record { few = omega arith; held = refl; mask = rw (i, j, state-fold (formulaAt q f ∷ formulaAt q g ∷ []), or-zero-r) })
+pub start-fits : (n : ℕ) (new : List ℕ) → length new ≡ ROOM → n ≤ ROOM → Fits (pass 0 0 0) n new
+start-fits n new e h = record { counted = omega arith; room = omega arith; size = e }
 
-  pub sorted-first : p .f ≡ s → (p .g ≡ s → ⊥) → (a : ℕ) → a ≡ bitOf (formulaAt q f)
-      → Sorted q (partsOn t p f g) (record { count = 1; first = f; second = f; mask = a })
-  sorted-first h k a i =
-      let w : partsOn t p f g ≡ f ∷ [] = rw (eq-eqb (p .f) (sideCode t) (h ∙ e), ne-eqb (p .g) (sideCode t) (λ d. k (d ∙ sym e))) in
-      rw w (record { few = omega arith; held = refl; mask = rw (i, state-fold (formulaAt q f ∷ []), or-zero-r) })
+pub end-inside : (t : Side) (s : Running) → s .lefts + s .rights ≤ ROOM → endOf t s ≤ ROOM
+end-inside Left s h = omega arith
+end-inside Right s h = h
 
-  pub sorted-second : (p .f ≡ s → ⊥) → p .g ≡ s → (a : ℕ) → a ≡ bitOf (formulaAt q g)
-      → Sorted q (partsOn t p f g) (record { count = 1; first = g; second = g; mask = a })
-  sorted-second h k a i =
-      let w : partsOn t p f g ≡ g ∷ [] = rw (ne-eqb (p .f) (sideCode t) (λ d. h (d ∙ sym e)), eq-eqb (p .g) (sideCode t) (k ∙ e)) in
-      rw w (record { few = omega arith; held = refl; mask = rw (i, state-fold (formulaAt q g ∷ []), or-zero-r) })
+-- ---- what is stored from the first place on is the two sides
 
-  pub sorted-none : (p .f ≡ s → ⊥) → (p .g ≡ s → ⊥) → Sorted q (partsOn t p f g) (record { count = 0; first = f; second = f; mask = 0 })
-  sorted-none h k =
-      let w : partsOn t p f g ≡ [] = rw (ne-eqb (p .f) (sideCode t) (λ d. h (d ∙ sym e)), ne-eqb (p .g) (sideCode t) (λ d. k (d ∙ sym e))) in
-      rw w (record { few = omega arith; held = refl; mask = refl })
+sides-size : (xs ys : List ℕ) → size (record { on-left = xs; on-right = ys }) ≡ length xs + length ys
+sides-size xs ys = omega (arith, ones xs, ones ys)
 
-pub parts-count : (p : Parts) → p .count ≤ 2 → length (partsView p) ≡ p .count
-parts-count p h = omega (arith, length-take (p .count) (p .first ∷ p .second ∷ []))
+module _ {c : Pass} {f : ℕ} {zs l n : List ℕ} (h : Stored (pass 0 0 0) c f zs l n) (xs ys : List ℕ) (e : zs ≡ xs ++ ys) (k : ℕ) (d : k ≡ length xs) where
+  both : take (c .to) n ≡ xs ++ ys
+  both = h .held ∙ e
 
-pub parts-empty : (q xs : List ℕ) (p : Parts) → Sorted q xs p → p .count ≡ 0 → p .mask ≡ 0
-parts-empty q xs p s e = go xs (s .held) (s .mask)
-  where
-    go : (xs : List ℕ) → partsView p ≡ xs → p .mask ≡ state (letters (map (formulaAt q) xs)) → p .mask ≡ 0
-    go [] h m = m
-    go (x ∷ xs) h m = absurd (omega (arith, parts-count p (s .few), ap length h))
+  count : c .to ≡ length xs + length ys
+  count = omega (arith, h .to, ap length e, length-append xs ys)
 
--- ---- lists
+  within : c .to ≤ length n
+  within = omega (arith, count, ap length both, length-append xs ys, length-take (c .to) n)
 
-pub on-left : {X : Type 0} (xs ys : List X) → on Left (map (λ z. L z) xs ++ map (λ z. R z) ys) ≡ xs
-on-left {X} (x ∷ xs) ys = ap (λ (l : List X). x ∷ l) (on-left xs ys)
-on-left [] [] = refl
-on-left [] (y ∷ ys) = on-left [] ys
+  left-side : take k n ≡ xs
+  left-side = sym (take-take k (c .to) n (omega (arith, count))) ∙ ap (take k) both ∙ take-at xs ys k (sym d)
 
-pub on-right : {X : Type 0} (xs ys : List X) → on Right (map (λ z. L z) xs ++ map (λ z. R z) ys) ≡ ys
-on-right (x ∷ xs) ys = on-right xs ys
-on-right [] [] = refl
-on-right {X} [] (y ∷ ys) = ap (λ (l : List X). y ∷ l) (on-right [] ys)
+  right-side : take (c .to - k) (drop k n) ≡ ys
+  right-side =
+      let i : k + (c .to - k) ≡ c .to = omega (arith, count) in
+      take-drop k (c .to - k) n (omega (arith, within, count)) ∙ ap (λ (j : ℕ). slice k j n) i ∙ ap (drop k) both ∙ drop-at xs ys k (sym d)
 
-pub element : {X Y : Type 0} (f : X → Y) (xs : List X) (i : ℕ) (d : X) → i < length xs → getElem? (map f xs) i ≡ some (f (getD xs i d))
-element f [] i d h = absurd (omega arith)
-element f (x ∷ xs) zero d h = refl
-element f (x ∷ xs) (suc i) d h = element f xs i d (omega arith)
+  two-sides : (v w : ℕ) → view (record { lefts = k; rights = c .to - k; leftmask = v; rightmask = w }) n ≡ record { on-left = xs; on-right = ys }
+  two-sides v w = λ i. record { on-left = left-side i; on-right = right-side i }
 
-pub map-splice : {X Y : Type 0} (f : X → Y) (i : ℕ) (new xs : List X) → map f (splice i new xs) ≡ splice i (map f new) (map f xs)
-map-splice f zero new [] = map-append f new []
-map-splice f zero new (x ∷ xs) = map-append f new xs
-map-splice f (suc i) new [] = map-append f new []
-map-splice {X} {Y} f (suc i) new (x ∷ xs) = ap (λ (l : List Y). f x ∷ l) (map-splice f i new xs)
+  two-stores : c .stores ≡ size (record { on-left = xs; on-right = ys })
+  two-stores = omega (arith, sides-size xs ys, h .stores, ap length e, length-append xs ys)
 
-each-splice : {X : Type 0} (Q : X → Type 0) (i : ℕ) (new xs : List X) → Each Q new → Each Q xs → Each Q (splice i new xs)
-each-splice Q zero new [] h k = each-append Q new [] h tt
-each-splice Q zero new (x ∷ xs) h k = each-append Q new xs h (k .1)
-each-splice Q (suc i) new [] h k = each-append Q new [] h tt
-each-splice Q (suc i) new (x ∷ xs) h k = (k .0, each-splice Q i new xs h (k .1))
+  two-listed : take (c .stores) n ≡ xs ++ ys
+  two-listed = let z : c .stores ≡ c .to = omega (arith, h .to, h .stores) in rw z both
 
-each-parts : (Q : ℕ → Type 0) (t : Side) (p : Placing) (f g : ℕ) → Q f → Q g → Each Q (partsOn t p f g)
-each-parts Q t p f g h k = each-append Q (keep (eqb (p .f) (sideCode t)) f) (keep (eqb (p .g) (sideCode t)) g) (one (eqb (p .f) (sideCode t)) f h) (one (eqb (p .g) (sideCode t)) g k)
-  where
-    one : (b : Bool) (x : ℕ) → Q x → Each Q (keep b x)
-    one true x h = (h, tt)
-    one false x h = tt
+  two-behind : drop (c .stores) n ≡ drop (c .stores) l
+  two-behind = let z : c .stores ≡ c .to = omega (arith, h .to, h .stores) in rw z (h .behind)
+
+  two-counts : k + (c .to - k) ≡ c .stores
+  two-counts = omega (arith, count, h .to, h .stores)
 
 -- ---- the premise
 
-pub ones : {X : Type 0} (xs : List X) → fold SUM (λ x. 1) xs ≡ length xs
-ones [] = refl
-ones (x ∷ xs) = omega (arith, ones xs)
+module _ (s : Running) (old : List ℕ) (full : length old ≡ ROOM) (room : s .lefts + s .rights ≤ ROOM) (p : Placing) (f g : ℕ) (at : ℕ) where
+  -- the names of each side of the premise
+  abbrev pub leftRun : Side → List ℕ
+  leftRun Left = slice 0 at old ++ (partsOn Left p f g ++ slice (at + 1) (s .lefts) old)
+  leftRun Right = slice 0 (s .lefts) old ++ partsOn Left p f g
 
-module _ (q : List ℕ) (s : Running) (good : Good q s) (items : length (s .items) ≡ ROOM) (p : Placing) (f g : ℕ) (hf : Stands q f) (hg : Stands q g) where
-  pub held : (t : Side) → length (view t s) ≡ countOf t s
-  held t = omega (arith, sides t s, good .room, lane-length t (s .items), length-take (countOf t s) (lane t (s .items)))
+  abbrev pub rightRun : Side → List ℕ
+  rightRun Left = slice (s .lefts) (s .lefts + s .rights) old ++ partsOn Right p f g
+  rightRun Right = slice (s .lefts) (s .lefts + at) old ++ (partsOn Right p f g ++ slice (s .lefts + at + 1) (s .lefts + s .rights) old)
 
-  pub premise-size : (t : Side) (at : ℕ) → at < countOf t s
-      → size (premise t at (places s) (placed p f g)) + 1 ≡ s .lefts + s .rights + length (partsOn t p f g) + length (partsOn (other t) p f g)
-  premise-size Left at h =
-      let l = partsOn Left p f g in
-      let r = partsOn Right p f g in
-      rw (on-left l r, on-right l r, ones (splice at l (view Left s)), ones (view Right s ++ r))
-      (omega (arith, splice-length (view Left s) l at (omega (arith, held Left)), length-append (view Right s) r, held Left, held Right))
-  premise-size Right at h =
-      let l = partsOn Left p f g in
-      let r = partsOn Right p f g in
-      rw (on-left l r, on-right l r, ones (splice at r (view Right s)), ones (view Left s ++ l))
-      (omega (arith, splice-length (view Right s) r at (omega (arith, held Right)), length-append (view Left s) l, held Left, held Right))
+  -- as the pass stores them
+  abbrev pub run : Side → List ℕ
+  run Left = (slice 0 at old ++ partsOn Left p f g) ++ (slice (at + 1) (s .lefts + s .rights) old ++ partsOn Right p f g)
+  run Right = ((slice 0 (s .lefts) old ++ partsOn Left p f g) ++ (slice (s .lefts) (s .lefts + at) old ++ partsOn Right p f g)) ++ slice (s .lefts + at + 1) (s .lefts + s .rights) old
 
-pub both : (Q : Side → Type 0) (t : Side) → Q t → Q (other t) → (u : Side) → Q u
-both Q Left h k Left = h
-both Q Left h k Right = k
-both Q Right h k Left = k
-both Q Right h k Right = h
+  run-sides : (t : Side) → at < countOf t s → run t ≡ leftRun t ++ rightRun t
+  run-sides Left h = rw (sym (slice-join (at + 1) (s .lefts) (s .lefts + s .rights) old (omega arith) (omega arith) (omega arith))) (simp append-assoc)
+  run-sides Right h = simp append-assoc
 
-pub other-other : (t : Side) → other (other t) ≡ t
-other-other Left = refl
-other-other Right = refl
+  right-view : take (s .rights) (drop (s .lefts) old) ≡ slice (s .lefts) (s .lefts + s .rights) old
+  right-view = take-drop (s .lefts) (s .rights) old (omega arith)
 
-places-premise : (s r : Running) (p : Placing) (f g at : ℕ) (t : Side) → view t r ≡ splice at (partsOn t p f g) (view t s)
-    → view (other t) r ≡ view (other t) s ++ partsOn (other t) p f g → places r ≡ premise t at (places s) (placed p f g)
-places-premise s r p f g at Left h k = λ i. record {
-  on-left = (h ∙ ap (λ (ps : List ℕ). splice at ps (view Left s)) (sym (on-left (partsOn Left p f g) (partsOn Right p f g)))) i;
-  on-right = (k ∙ ap (λ (ps : List ℕ). view Right s ++ ps) (sym (on-right (partsOn Left p f g) (partsOn Right p f g)))) i;
-}
-places-premise s r p f g at Right h k = λ i. record {
-  on-left = (k ∙ ap (λ (ps : List ℕ). view Left s ++ ps) (sym (on-left (partsOn Left p f g) (partsOn Right p f g)))) i;
-  on-right = (h ∙ ap (λ (ps : List ℕ). splice at ps (view Right s)) (sym (on-right (partsOn Left p f g) (partsOn Right p f g)))) i;
-}
+  to-left : on Left (placed p f g) ≡ partsOn Left p f g
+  to-left = on-left (partsOn Left p f g) (partsOn Right p f g)
 
-module _ (q : List ℕ) (s : Running) (good : Good q s) (items : length (s .items) ≡ ROOM) (p : Placing) (f g : ℕ) (hf : Stands q f) (hg : Stands q g)
-    (t : Side) (at : ℕ) (due : Compounds q t at s) (room : size (premise t at (places s) (placed p f g)) ≤ ROOM)
-    (k m : Parts) (sk : Sorted q (partsOn t p f g) k) (sm : Sorted q (partsOn (other t) p f g) m) where
-  count-at : (u : Side) → length (view u s) ≡ countOf u s
-  count-at = held q s good items p f g hf hg
+  to-right : on Right (placed p f g) ≡ partsOn Right p f g
+  to-right = on-right (partsOn Left p f g) (partsOn Right p f g)
 
-  fits : s .lefts + s .rights + k .count + m .count ≤ ROOM + 1
-  fits =
-      omega (arith, premise-size q s good items p f g hf hg t at (due .inside), parts-count k (sk .few), ap length (sk .held), parts-count m (sm .few), ap length (sm .held))
+  pub premise-runs : (t : Side) → at < countOf t s → premise t at (view s old) (placed p f g) ≡ record { on-left = leftRun t; on-right = rightRun t }
+  premise-runs Left h = λ i. record {
+    on-left = (ap (λ (ps : List ℕ). splice at ps (take (s .lefts) old)) to-left ∙ splice-slice 0 at at (s .lefts) (partsOn Left p f g) old (omega arith) h (omega arith)) i;
+    on-right = (ap (λ (v : List ℕ). v ++ on Right (placed p f g)) right-view ∙ ap (λ (ps : List ℕ). slice (s .lefts) (s .lefts + s .rights) old ++ ps) to-right) i;
+  }
+  premise-runs Right h = λ i. record {
+    on-left = ap (λ (ps : List ℕ). take (s .lefts) old ++ ps) to-left i;
+    on-right = (ap (λ (v : List ℕ). splice at (on Right (placed p f g)) v) right-view ∙ ap (λ (ps : List ℕ). splice at ps (slice (s .lefts) (s .lefts + s .rights) old)) to-right
+        ∙ splice-slice (s .lefts) at (s .lefts + at) (s .lefts + s .rights) (partsOn Right p f g) old refl (omega arith) (omega arith)) i;
+  }
 
-  pub replace-fits : (at < countOf t s) × (s .lefts + s .rights ≤ ROOM) × (s .lefts + s .rights + k .count ≤ ROOM + 1) × (k .count ≤ 2) × (k .count ≡ 0 → k .mask ≡ 0)
-  replace-fits = (due .inside, good .room, omega (arith, fits), sk .few, parts-empty q (partsOn t p f g) k sk)
+  -- the names of both sides, less the one that makes way
+  pub premise-size : (t : Side) → at < countOf t s
+      → size (premise t at (view s old) (placed p f g)) + 1 ≡ s .lefts + s .rights + length (partsOn Left p f g) + length (partsOn Right p f g)
+  premise-size Left h =
+      omega (arith, ap size (premise-runs Left h), sides-size (leftRun Left) (rightRun Left), splice-length 0 at (s .lefts) (partsOn Left p f g) old (omega arith) h (omega arith), end-length (s .lefts) (s .lefts + s .rights) (partsOn Right p f g) old (omega arith) (omega arith))
+  premise-size Right h =
+      omega (arith, ap size (premise-runs Right h), sides-size (leftRun Right) (rightRun Right), end-length 0 (s .lefts) (partsOn Left p f g) old (omega arith) (omega arith), splice-length (s .lefts) (s .lefts + at) (s .lefts + s .rights) (partsOn Right p f g) old (omega arith) (omega arith) (omega arith))
 
-  module _ (r₁ : Running) (c₁ : Changed t (splice at (partsView k) (view t s)) (k .mask) s r₁) where
-    pub append-fits : (r₁ .lefts + r₁ .rights + m .count ≤ ROOM) × (m .count ≤ 2) × (m .count ≡ 0 → m .mask ≡ 0)
-    append-fits =
-        let long = splice-length (view t s) (partsView k) at (omega (arith, count-at t, due .inside)) in (
-          omega (arith, fits, sides t r₁, sides t s, c₁ .counted, c₁ .aside-counted, long, count-at t, parts-count k (sk .few)),
-          sm .few,
-          parts-empty q (partsOn (other t) p f g) m sm,
-        )
+  module _ (t : Side) (h : at < countOf t s) {c : Pass} {l n : List ℕ} (stored : Stored (pass 0 0 0) c (s .lefts + s .rights) (run t) l n)
+      (k : ℕ) (e : k ≡ length (leftRun t)) where
+    abbrev made : Running → Built
+    made r = record { running = record { lefts = k; rights = c .to - k; leftmask = r .leftmask; rightmask = r .rightmask }; stores = c .stores }
 
-    module _ (r : Running) (c₂ : Changed (other t) (view (other t) r₁ ++ partsView m) (m .mask) r₁ r) where
-      place-view : view t r ≡ splice at (partsOn t p f g) (view t s)
-      place-view = rw (other-other t) at (c₂ .aside) ∙ c₁ .held ∙ ap (λ (ps : List ℕ). splice at ps (view t s)) (sk .held)
-
-      end-view : view (other t) r ≡ view (other t) s ++ partsOn (other t) p f g
-      end-view = c₂ .held ∙ ap (λ (l : List ℕ). l ++ partsView m) (c₁ .aside) ∙ ap (λ (ps : List ℕ). view (other t) s ++ ps) (sm .held)
-
-      place-mask : maskOf t r ≡ state (letters (formulasOf q t r))
-      place-mask =
-          let xs = map (formulaAt q) (view t s) in
-          let new = map (formulaAt q) (partsOn t p f g) in
-          let w = formulaAt q (getD (view t s) at 0) in
-          let here = element (formulaAt q) (view t s) at 0 (omega (arith, count-at t, due .inside)) in
-          let none = ap bitOf (due .compound .1) ∙ bit-whole (due .compound .0) in
-          rw (other-other t) at (c₂ .aside-mask) ∙ c₁ .mask ∙ rw (good .masks t, sk .mask, state-fold xs, state-fold new)
-          (sym (fold-splice OR bitOf xs at w new here none))
-          ∙ sym (state-fold (splice at new xs)) ∙ ap (λ (l : List Formula). state (letters l)) (sym (map-splice (formulaAt q) at (partsOn t p f g) (view t s)))
-          ∙ ap (λ (l : List ℕ). state (letters (map (formulaAt q) l))) (sym place-view)
-
-      end-mask : maskOf (other t) r ≡ state (letters (formulasOf q (other t) r))
-      end-mask =
-          let xs = map (formulaAt q) (view (other t) s) in
-          let new = map (formulaAt q) (partsOn (other t) p f g) in
-          c₂ .mask ∙ rw (c₁ .aside-mask, good .masks (other t), sm .mask, state-fold xs, state-fold new) (sym (fold-append OR bitOf xs new))
-          ∙ sym (state-fold (xs ++ new)) ∙ ap (λ (l : List Formula). state (letters l)) (sym (map-append (formulaAt q) (view (other t) s) (partsOn (other t) p f g)))
-          ∙ ap (λ (l : List ℕ). state (letters (map (formulaAt q) l))) (sym end-view)
-
-      pub premise-made : (places r ≡ premise t at (places s) (placed p f g)) × Good q r
-      premise-made =
-          let back = rw (other-other t) at (c₂ .aside-counted) in
-          let long = length-append (view (other t) r₁) (partsView m) in
-          let few = parts-count m (sm .few) in (
-            places-premise s r p f g at t place-view end-view,
-            record {
-              short = good .short;
-              room = omega (arith, append-fits, sides t r, sides t r₁, c₂ .counted, back, long, few, c₁ .aside-counted, ap length (c₁ .aside), count-at (other t));
-              stand = both (λ u. Each (Stands q) (view u r)) t
-                  (rw place-view (each-splice (Stands q) at (partsOn t p f g) (view t s) (each-parts (Stands q) t p f g hf hg) (good .stand t)))
-                  (rw end-view (each-append (Stands q) (view (other t) s) (partsOn (other t) p f g) (good .stand (other t)) (each-parts (Stands q) (other t) p f g hf hg)));
-              masks = both (λ u. maskOf u r ≡ state (letters (formulasOf q u r))) t place-mask end-mask;
-            },
-          )
-
--- ---- one formula more
-
-module _ (q : List ℕ) (s : Running) (good : Good q s) (items : length (s .items) ≡ ROOM) (p : ℕ) (h : Stands q p) (room : s .lefts + s .rights < ROOM)
-    (t : Side) (m : ℕ) (e : m ≡ bitOf (formulaAt q p)) (r : Running) (c : Changed t (view t s ++ (p ∷ [])) m s r) where
-  end-letters : maskOf t r ≡ state (letters (formulasOf q t r))
-  end-letters =
-      let xs = map (formulaAt q) (view t s) in
-      let new = formulaAt q p ∷ [] in
-      c .mask ∙ rw (good .masks t, e, state-fold xs, ← or-zero-r (bitOf (formulaAt q p))) (sym (fold-append OR bitOf xs new)) ∙ sym (state-fold (xs ++ new))
-      ∙ ap (λ (l : List Formula). state (letters l)) (sym (map-append (formulaAt q) (view t s) (p ∷ []))) ∙ ap (λ (l : List ℕ). state (letters (map (formulaAt q) l))) (sym (c .held))
-
-  pub pushed : Pushed q t p s r
-  pushed =
-      record {
-        held = c .held;
-        aside = c .aside;
-        good = record {
-          short = good .short;
-          room = omega (arith, sides t r, sides t s, c .counted, c .aside-counted, length-append (view t s) (p ∷ []), lane-length t (s .items), length-take (countOf t s) (lane t (s .items)));
-          stand = both (λ u. Each (Stands q) (view u r)) t (rw (c .held) (each-append (Stands q) (view t s) (p ∷ []) (good .stand t) (h, tt))) (rw (c .aside) (good .stand (other t)));
-          masks = both (λ u. maskOf u r ≡ state (letters (formulasOf q u r))) t end-letters
-              (c .aside-mask ∙ good .masks (other t) ∙ ap (λ (l : List ℕ). state (letters (map (formulaAt q) l))) (sym (c .aside)));
-        };
-      }
+    pub premise-made : length l ≡ ROOM → (r : Running) → Lettered p f g s r → Builds t at p f g s old l n (made r)
+    premise-made z r d =
+        record {
+          held = two-sides stored (leftRun t) (rightRun t) (run-sides t h) k e (r .leftmask) (r .rightmask) ∙ sym (premise-runs t h);
+          stored = two-listed stored (leftRun t) (rightRun t) (run-sides t h) k e ∙ ap listed (sym (premise-runs t h));
+          behind = two-behind stored (leftRun t) (rightRun t) (run-sides t h) k e;
+          stores = two-stores stored (leftRun t) (rightRun t) (run-sides t h) k e ∙ ap size (sym (premise-runs t h));
+          counted = two-counts stored (leftRun t) (rightRun t) (run-sides t h) k e;
+          full = stored .size ∙ z;
+          masks = masks;
+        }
+      where
+        masks : (u : Side) → maskOf u (made r .running) ≡ bitOr (maskOf u s) (lettersOf (partsOn u p f g))
+        masks Left = d .masks Left
+        masks Right = d .masks Right

@@ -1,4 +1,6 @@
--- The running sequent: what its fields stand for, and what its methods give.
-pub mod View
+-- The running sequent: what names and nodes tell, what its places stand for, and what its methods give.
+pub mod Names
 pub mod Rule
+pub mod View
+pub mod Passes
 pub mod Compounds

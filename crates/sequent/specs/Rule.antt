@@ -1,13 +1,14 @@
 -- What a row of the constant table says.
-use mathlib.Core.Bool.{Bool, true, false}
+use mathlib.Core.Bool.{Bool, true, false, _||_}
 use mathlib.Core.List.{List, [], _∷_, _++_, map}
-use Prim.Native.Nat.{ℕ}
-use lib.Dec.{eqb}
+use Prim.Native.Nat.{ℕ, _+_}
+use lib.Dec.{eqb, ltb}
 use lib.ListN.{length, getD}
 use Rattle.calculus.specs.declared.Side.{Side}
 use Rattle.calculus.specs.declared.Side.the-variants.{Left, Right}
 use Rattle.calculus.specs.Fold.{choose}
-use Rattle.calculus.specs.Syntax.{Connective, Seq}
+use Rattle.calculus.specs.Limits.{ROOM}
+use Rattle.calculus.specs.Syntax.{Connective, Seq, size}
 use Rattle.calculus.specs.Table.{Part, F, G, Put, L, R, table, on}
 use Rattle.sequent.specs.declared.Placing.{Placing}
 use Rattle.sequent.specs.declared.Rule.{Rule}
@@ -61,3 +62,16 @@ sided ps = record { on-left = on Left ps; on-right = on Right ps }
 -- a premise's parts, each on its side
 abbrev pub placed : {X : Type 0} → Placing → X → X → List (Put X)
 placed p x y = map (λ z. L z) (partsOn Left p x y) ++ map (λ z. R z) (partsOn Right p x y)
+
+-- where each premise of a rule puts the parts
+abbrev pub placings : Rule → List Placing
+placings r = r .first ∷ choose (eqb (r .premises) 2) (r .second ∷ []) []
+
+abbrev pub countOne : Bool → ℕ
+countOne true = 1
+countOne false = 0
+
+-- whether a premise of a rule would hold more than there is room for, n formulas being held
+abbrev pub overfullOf : Rule → ℕ → Bool
+overfullOf r n =
+    ltb (ROOM + 1) (n + size (premiseOf (r .first))) || choose (eqb (r .premises) 2) (ltb (ROOM + 1) (n + size (premiseOf (r .second)))) false

@@ -1,38 +1,28 @@
-// The running sequent and its reductions.
+// The running sequent: the names of its formulas, the table of reductions, and premises made in one pass.
 use calculus::Side;
 use calculus::wide;
+use question::LETTERS;
 ghost use mathlib.Core.Path.{_≡_};
-ghost use mathlib.Core.List.{[], _++_, map};
+ghost use mathlib.Core.List.{_++_};
 ghost use Prim.Native.Nat.{_+_, _-_, _%_, _≤_, _<_};
-ghost use lib.Bits.{bitOr};
-ghost use lib.ListN.{length, take};
-ghost use Rattle.calculus.specs.Fold.{Each};
-ghost use Rattle.calculus.specs.Limits.{ROOM};
-ghost use Rattle.calculus.specs.Syntax.{Connective, other, size};
+ghost use lib.ListN.{length};
+ghost use lib.Seq.{slice};
+ghost use Rattle.calculus.specs.Limits.{ROOM, LETTERS};
+ghost use Rattle.calculus.specs.Syntax.{Connective, size};
 ghost use Rattle.calculus.specs.Bytes.{CONNECTIVE, code};
-ghost use Rattle.calculus.specs.Table.{splice, premise};
-ghost use Rattle.question.specs.Positions.{formulaAt};
-ghost use Rattle.sequent.specs.View.{lane, slotOf, countOf, maskOf, view, settled, partsView, Stands, Opened, Shut};
-ghost use Rattle.sequent.specs.View.{Changed, bitOf, Sorted, Good, Compounds, Pushed, places};
-ghost use Rattle.sequent.specs.Compounds.{firstIn, Found};
-ghost use Rattle.sequent.specs.Rule.{sideCode, ruleOf, partsOn, placed};
+ghost use Rattle.calculus.specs.Table.{premise};
+ghost use Rattle.sequent.specs.Rule.{sideCode, ruleOf, keep, partsOn, placed, premiseOf, countOne};
+ghost use Rattle.sequent.specs.View.{view, countOf, slotOf, endOf, startOf, lettersOf, Lettered, Good, nameAt, Pushed};
+ghost use Rattle.sequent.specs.Passes.{Fits, Stored, Builds};
+ghost use Rattle.sequent.specs.Compounds.{firstIn, Clear, Found, reductionAt};
 
-// Formulas by their positions in the question's bytes: the left side from the front of `items`, the right side from the
-// back, and what lies between is free, since nothing reads it; and the letters of each side, a bit each.
+// How many formulas stand on each side, and the letters of each side, a bit each. The names of the formulas, the left side's
+// and then the right side's, are lent beside it: a letter is named by itself, a compound by its node, above the letters.
 pub struct Running {
-    pub items: [u8; 80],
     pub lefts: usize,
     pub rights: usize,
     pub leftmask: u32,
     pub rightmask: u32,
-}
-
-// At most two formulas, and their letters. A place that the count does not reach is free: nothing reads it.
-pub struct Parts {
-    pub count: usize,
-    pub first: u8,
-    pub second: u8,
-    pub mask: u32,
 }
 
 // Where the two parts of a formula go in a premise: 0 nowhere, 1 left, 2 right.
@@ -47,10 +37,33 @@ pub struct Rule {
     pub second: Placing,
 }
 
-// A place of a side, and the position of the formula there.
+// The compound at a place of a side: its connective's command, its rule on that side, and the names of its parts.
+pub struct Reduction {
+    pub side: Side,
+    pub at: usize,
+    pub connective: u8,
+    pub rule: Rule,
+    pub f: u8,
+    pub g: u8,
+}
+
+// A side and a place of it.
 pub enum Place {
-    At(Side, usize, u8),
+    At(Side, usize),
     Nowhere,
+}
+
+// A premise in the making: the next place of the old list, the next place of the new one, and the stores so far.
+pub struct Pass {
+    pub from: usize,
+    pub to: usize,
+    pub stores: usize,
+}
+
+// A premise and the stores made for it.
+pub struct Built {
+    pub running: Running,
+    pub stores: usize,
 }
 
 // The formulas that a running sequent holds at most.
@@ -110,40 +123,105 @@ pub fn rule_of(b: u8, side: Side) -> Rule
     }
 }
 
-// Where the formula at a place of a side stands among the items.
-pub fn slot(side: Side, i: usize) -> usize
-    requires { ⌜ i < ROOM ⌝ }
-    ensures { λ r. ⌜ (r ≡ slotOf side i) × (r < ROOM) ⌝ }
+fn one(yes: bool) -> usize
+    ensures { λ r. ⌜ (r ≡ countOne yes) × (r ≤ 1) ⌝ }
 {
-    match side {
-        Side::Left => i,
-        Side::Right => 79 - i,
+    if yes { 1 } else { 0 }
+}
+
+// How many parts a premise places.
+pub fn placed(p: Placing) -> usize
+    ensures { λ r. ⌜ (r ≡ size (premiseOf p)) × (r ≤ 4) ⌝ }
+{
+    one(p.f == L) + one(p.g == L) + (one(p.f == R) + one(p.g == R))
+}
+
+// ---- the places of a premise, stored from the first to the last
+
+impl Pass {
+    // The old places up to one.
+    fn copy(self, old: &[u8; 80], new: &mut [u8; 80], end: usize) -> Pass
+        requires { ⌜ (self .from ≤ end) × (end ≤ ROOM) × (length (now old) ≡ ROOM) × Fits self (end - self .from) (now new) ⌝ }
+        ensures { λ r. ⌜ Stored self r end (slice (self .from) end (now (old .entry))) (now (new .entry)) (now (new .exit)) ⌝ }
+    {
+        let mut i = self.from;
+        let mut j = self.to;
+        let mut stores = self.stores;
+        while i < end {
+            new[j] = old[i];
+            stores += 1;
+            i += 1;
+            j += 1;
+        }
+        Pass {
+            from: i,
+            to: j,
+            stores: stores,
+        }
+    }
+
+    // A name, where it is wanted.
+    fn put(self, new: &mut [u8; 80], wanted: bool, x: u8) -> Pass
+        requires { ⌜ Fits self (length (keep wanted x)) (now new) ⌝ }
+        ensures { λ r. ⌜ Stored self r (self .from) (keep wanted x) (now (new .entry)) (now (new .exit)) ⌝ }
+    {
+        if wanted {
+            let to = self.to;
+            new[to] = x;
+            return Pass {
+                from: self.from,
+                to: to + 1,
+                stores: self.stores + 1,
+            };
+        }
+        self
+    }
+
+    // The parts that a premise puts on a side.
+    fn parts(self, new: &mut [u8; 80], side: Side, p: Placing, f: u8, g: u8) -> Pass
+        requires { ⌜ Fits self (length (partsOn side p f g)) (now new) ⌝ }
+        ensures { λ r. ⌜ Stored self r (self .from) (partsOn side p f g) (now (new .entry)) (now (new .exit)) ⌝ }
+    {
+        let s = side_code(side);
+        self.put(new, p.f == s, f).put(new, p.g == s, g)
+    }
+
+    // The formula that makes way.
+    fn skip(self) -> Pass
+        requires { ⌜ self .from < ROOM ⌝ }
+        ensures { λ r. ⌜ (r .from ≡ self .from + 1) × (r .to ≡ self .to) × (r .stores ≡ self .stores) ⌝ }
+    {
+        Pass {
+            from: self.from + 1,
+            to: self.to,
+            stores: self.stores,
+        }
     }
 }
 
-// The formulas after a place of a side that holds n move up by one.
-fn open_gap(items: &mut [u8; 80], side: Side, at: usize, n: usize)
-    requires { ⌜ (at < n) × (n < ROOM) × (length (now items) ≡ ROOM) ⌝ }
-    ensures { λ _. ⌜ Opened side at n (now (items .entry)) (now (items .exit)) ⌝ }
+// ---- the letters of a premise's parts
+
+// The bit of a letter, where it is wanted.
+fn mark(wanted: bool, name: u8) -> u32
+    ensures { λ r. ⌜ r ≡ lettersOf (keep wanted name) ⌝ }
 {
-    let mut i = n;
-    while at + 1 < i {
-        items[slot(side, i)] = items[slot(side, i - 1)];
-        i -= 1;
+    if wanted {
+        if name < LETTERS {
+            return 1u32 << name;
+        }
     }
+    0
 }
 
-// The formulas after a place of a side that holds n move down by one, over the one at the place.
-fn close_gap(items: &mut [u8; 80], side: Side, at: usize, n: usize)
-    requires { ⌜ (at < n) × (n ≤ ROOM) × (length (now items) ≡ ROOM) ⌝ }
-    ensures { λ _. ⌜ Shut side at n (now (items .entry)) (now (items .exit)) ⌝ }
+// The letters among the parts that a premise puts on a side.
+fn marks(side: Side, p: Placing, f: u8, g: u8) -> u32
+    ensures { λ r. ⌜ r ≡ lettersOf (partsOn side p f g) ⌝ }
 {
-    let mut i = at + 1;
-    while i < n {
-        items[slot(side, i - 1)] = items[slot(side, i)];
-        i += 1;
-    }
+    let s = side_code(side);
+    mark(p.f == s, f) | mark(p.g == s, g)
 }
+
+// ---- the running sequent
 
 impl Running {
     pub fn count(self, side: Side) -> usize
@@ -155,188 +233,178 @@ impl Running {
         }
     }
 
-    // A side holds n formulas now, some of them new, with these letters.
-    fn settle(mut self, side: Side, n: usize, mask: u32) -> Running
-        ensures { λ r. ⌜ r ≡ settled side n (bitOr (maskOf side self) mask) self ⌝ }
+    // Where the name at a place of a side stands in the list.
+    pub fn slot(self, side: Side, at: usize) -> usize
+        requires { ⌜ (at < countOf side self) × (self .lefts + self .rights ≤ ROOM) ⌝ }
+        ensures { λ r. ⌜ (r ≡ slotOf side at self) × (r < ROOM) ⌝ }
     {
         match side {
-            Side::Left => {
-                self.lefts = n;
-                self.leftmask = self.leftmask | mask;
-                return self;
-            }
-            Side::Right => {
-                self.rights = n;
-                self.rightmask = self.rightmask | mask;
-                return self;
-            }
+            Side::Left => at,
+            Side::Right => self.lefts + at,
         }
     }
 
-    fn remove(mut self, side: Side, at: usize) -> Running
-        requires { ⌜ (at < countOf side self) × (self .lefts + self .rights ≤ ROOM) ⌝ }
-        ensures { λ r. ⌜ Changed side (splice at [] (view side self)) 0 self r ⌝ }
+    // Where a side's names end in the list.
+    fn end(self, side: Side) -> usize
+        requires { ⌜ self .lefts + self .rights ≤ ROOM ⌝ }
+        ensures { λ r. ⌜ r ≡ endOf side self ⌝ }
     {
-        let n = self.count(side);
-        close_gap(&mut self.items, side, at, n);
-        self.settle(side, n - 1, 0)
+        match side {
+            Side::Left => self.lefts,
+            Side::Right => self.lefts + self.rights,
+        }
     }
 
-    fn put_one(mut self, side: Side, at: usize, parts: Parts) -> Running
-        requires { ⌜ (at < countOf side self) × (self .lefts + self .rights ≤ ROOM) × (parts .count ≡ 1) ⌝ }
-        ensures { λ r. ⌜ Changed side (splice at (partsView parts) (view side self)) (parts .mask) self r ⌝ }
+    // Where the premises of a reduction of the first compound, at a place of a side, are searched from: before it stand letters.
+    pub fn start(self, side: Side, at: usize) -> usize
+        ensures { λ r. ⌜ r ≡ startOf side at self ⌝ }
     {
-        let n = self.count(side);
-        self.items[slot(side, at)] = parts.first;
-        self.settle(side, n, parts.mask)
+        match side {
+            Side::Left => at,
+            Side::Right => self.lefts,
+        }
     }
 
-    fn put_two(mut self, side: Side, at: usize, parts: Parts) -> Running
-        requires { ⌜ (at < countOf side self) × (self .lefts + self .rights < ROOM) × (parts .count ≡ 2) ⌝ }
-        ensures { λ r. ⌜ Changed side (splice at (partsView parts) (view side self)) (parts .mask) self r ⌝ }
-    {
-        let n = self.count(side);
-        open_gap(&mut self.items, side, at, n);
-        self.items[slot(side, at)] = parts.first;
-        self.items[slot(side, at + 1)] = parts.second;
-        self.settle(side, n + 1, parts.mask)
-    }
-
-    // The formula at a place makes way for the parts.
-    pub fn replace(self, side: Side, at: usize, parts: Parts) -> Running
+    // What is left up to a place of a side, and the parts in place of the formula there.
+    fn replace(
+        self,
+        a: Pass,
+        old: &[u8; 80],
+        new: &mut [u8; 80],
+        side: Side,
+        at: usize,
+        p: Placing,
+        f: u8,
+        g: u8,
+    ) -> Pass
         requires { ⌜
             (at < countOf side self)
             × (self .lefts + self .rights ≤ ROOM)
-            × (self .lefts + self .rights + parts .count ≤ ROOM + 1)
-            × (parts .count ≤ 2)
-            × (parts .count ≡ 0 → parts .mask ≡ 0) ⌝ }
-        ensures { λ r. ⌜ Changed side (splice at (partsView parts) (view side self)) (parts .mask) self r ⌝ }
+            × (a .from ≤ slotOf side at self)
+            × (length (now old) ≡ ROOM)
+            × Fits a (slotOf side at self - a .from + length (partsOn side p f g)) (now new) ⌝ }
+        ensures { λ r. ⌜
+            Stored
+            a
+            r
+            (slotOf side at self + 1)
+            (slice (a .from) (slotOf side at self) (now (old .entry)) ++ partsOn side p f g)
+            (now (new .entry))
+            (now (new .exit)) ⌝ }
     {
-        let k = parts.count;
-        match k {
-            0 => self.remove(side, at),
-            1 => self.put_one(side, at, parts),
-            _ => self.put_two(side, at, parts),
-        }
+        let k = self.slot(side, at);
+        a.copy(old, new, k).parts(new, side, p, f, g).skip()
     }
 
-    // The parts go to the end of a side.
-    pub fn append(mut self, side: Side, parts: Parts) -> Running
+    // What is left up to the end of a side, and the parts behind it.
+    fn append(
+        self,
+        a: Pass,
+        old: &[u8; 80],
+        new: &mut [u8; 80],
+        side: Side,
+        p: Placing,
+        f: u8,
+        g: u8,
+    ) -> Pass
         requires { ⌜
-            (self .lefts + self .rights + parts .count ≤ ROOM)
-            × (parts .count ≤ 2)
-            × (parts .count ≡ 0 → parts .mask ≡ 0) ⌝ }
-        ensures { λ r. ⌜ Changed side (view side self ++ partsView parts) (parts .mask) self r ⌝ }
+            (a .from ≤ endOf side self)
+            × (self .lefts + self .rights ≤ ROOM)
+            × (length (now old) ≡ ROOM)
+            × Fits a (endOf side self - a .from + length (partsOn side p f g)) (now new) ⌝ }
+        ensures { λ r. ⌜
+            Stored
+            a
+            r
+            (endOf side self)
+            (slice (a .from) (endOf side self) (now (old .entry)) ++ partsOn side p f g)
+            (now (new .entry))
+            (now (new .exit)) ⌝ }
     {
-        let n = self.count(side);
-        if parts.count == 0 {
-            return self;
-        }
-        self.items[slot(side, n)] = parts.first;
-        if parts.count == 1 {
-            return self.settle(side, n + 1, parts.mask);
-        }
-        self.items[slot(side, n + 1)] = parts.second;
-        self.settle(side, n + 2, parts.mask)
+        let k = self.end(side);
+        a.copy(old, new, k).parts(new, side, p, f, g)
     }
-}
 
-// The letter of a formula, as a bit; none for a compound.
-fn letter_bit(q: &[u8], p: u8) -> u32
-    requires { ⌜ Stands (now q) p ⌝ }
-    ensures { λ r. ⌜ r ≡ bitOf (formulaAt (now (q .entry)) p) ⌝ }
-{
-    let i = wide(p);
-    if q[i] == 1 {
-        return 1u32 << q[i + 1];
-    }
-    0
-}
-
-// The parts f and g that a premise puts on a side.
-fn parts_on(q: &[u8], side: Side, p: Placing, f: u8, g: u8) -> Parts
-    requires { ⌜ Stands (now q) f × Stands (now q) g ⌝ }
-    ensures { λ r. ⌜ Sorted (now (q .entry)) (partsOn side p f g) r ⌝ }
-{
-    let s = side_code(side);
-    if p.f == s {
-        if p.g == s {
-            return Parts {
-                count: 2,
-                first: f,
-                second: g,
-                mask: letter_bit(q, f) | letter_bit(q, g),
-            };
-        }
-        return Parts {
-            count: 1,
-            first: f,
-            second: f,
-            mask: letter_bit(q, f),
-        };
-    }
-    if p.g == s {
-        return Parts {
-            count: 1,
-            first: g,
-            second: g,
-            mask: letter_bit(q, g),
-        };
-    }
-    Parts {
-        count: 0,
-        first: f,
-        second: f,
-        mask: 0,
+    // The letters of a premise's parts join those of their sides.
+    fn lettered(mut self, p: Placing, f: u8, g: u8) -> Running
+        ensures { λ r. ⌜ Lettered p f g self r ⌝ }
+    {
+        self.leftmask = self.leftmask | marks(Side::Left, p, f, g);
+        self.rightmask = self.rightmask | marks(Side::Right, p, f, g);
+        self
     }
 }
 
 impl Running {
     // A premise: the parts of its side take the place, the others go to the end of their side.
-    pub fn premise(self, q: &[u8], side: Side, at: usize, p: Placing, f: u8, g: u8) -> Running
+    pub fn premise(
+        self,
+        old: &[u8; 80],
+        new: &mut [u8; 80],
+        side: Side,
+        at: usize,
+        p: Placing,
+        f: u8,
+        g: u8,
+    ) -> Built
         requires { ⌜
-            Good (now q) self
-            × Stands (now q) f
-            × Stands (now q) g
-            × Compounds (now q) side at self
-            × (size (premise side at (places self) (placed p f g)) ≤ ROOM) ⌝ }
-        ensures { λ r. ⌜ (places r ≡ premise side at (places self) (placed p f g)) × Good (now (q .entry)) r ⌝ }
+            (at < countOf side self)
+            × (self .lefts + self .rights ≤ ROOM)
+            × (length (now old) ≡ ROOM)
+            × (length (now new) ≡ ROOM)
+            × (size (premise side at (view self (now old)) (placed p f g)) ≤ ROOM) ⌝ }
+        ensures { λ r. ⌜ Builds side at p f g self (now (old .entry)) (now (new .entry)) (now (new .exit)) r ⌝ }
     {
-        let kept = parts_on(q, side, p, f, g);
-        let away = side.other();
-        let moved = parts_on(q, away, p, f, g);
-        self.replace(side, at, kept).append(away, moved)
+        let s = self.lettered(p, f, g);
+        let n = self.lefts + self.rights;
+        let start = Pass {
+            from: 0,
+            to: 0,
+            stores: 0,
+        };
+        let lefts = self.lefts;
+        match side {
+            Side::Left => {
+                let l = self.replace(start, old, new, Side::Left, at, p, f, g);
+                let e = self.append(l, old, new, Side::Right, p, f, g);
+                let k = l.to + (lefts - l.from);
+                Built {
+                    running: Running {
+                        lefts: k,
+                        rights: e.to - k,
+                        leftmask: s.leftmask,
+                        rightmask: s.rightmask,
+                    },
+                    stores: e.stores,
+                }
+            }
+            Side::Right => {
+                let l = self.append(start, old, new, Side::Left, p, f, g);
+                let r = self.replace(l, old, new, Side::Right, at, p, f, g);
+                let e = r.copy(old, new, n);
+                let k = l.to;
+                Built {
+                    running: Running {
+                        lefts: k,
+                        rights: e.to - k,
+                        leftmask: s.leftmask,
+                        rightmask: s.rightmask,
+                    },
+                    stores: e.stores,
+                }
+            }
+        }
     }
 }
 
-impl Running {
-    // One formula more at the end of a side.
-    pub fn push(self, q: &[u8], side: Side, p: u8) -> Running
-        requires { ⌜ Good (now q) self × Stands (now q) p × (self .lefts + self .rights < ROOM) ⌝ }
-        ensures { λ r. ⌜ Pushed (now (q .entry)) side p self r ⌝ }
-    {
-        let mask = letter_bit(q, p);
-        self.append(
-            side,
-            Parts {
-                count: 1,
-                first: p,
-                second: p,
-                mask: mask,
-            },
-        )
-    }
-}
-
-// The place of the first compound among the n formulas of a side, or n.
-fn first_on(q: &[u8], items: &[u8; 80], side: Side, n: usize) -> usize
-    requires { ⌜ (n ≤ ROOM) × (length (now items) ≡ ROOM) × Each (Stands (now q)) (take n (lane side (now items))) ⌝ }
-    ensures { λ r. ⌜ r ≡ firstIn (map (formulaAt (now (q .entry))) (take n (lane side (now (items .entry))))) ⌝ }
+// The first compound from a place on, or n.
+fn first_from(items: &[u8; 80], from: usize, n: usize) -> usize
+    requires { ⌜ (from ≤ n) × (n ≤ ROOM) × (length (now items) ≡ ROOM) ⌝ }
+    ensures { λ r. ⌜ (r ≡ from + firstIn (slice from n (now (items .entry)))) × (r ≤ n) ⌝ }
 {
-    let mut i = 0;
+    let mut i = from;
     while i < n {
-        let p = wide(items[slot(side, i)]);
-        if q[p] != 1 {
+        if LETTERS <= items[i] {
             return i;
         }
         i += 1;
@@ -344,22 +412,77 @@ fn first_on(q: &[u8], items: &[u8; 80], side: Side, n: usize) -> usize
     n
 }
 
+// The lowest byte of a number.
+fn low(n: u32) -> u8
+    ensures { λ r. ⌜ r ≡ n % 256 ⌝ }
+{
+    (n % 256) as u8
+}
+
 impl Running {
-    // The first formula with a connective, the left side before the right.
-    pub fn first_compound(self, q: &[u8]) -> Place
-        requires { ⌜ Good (now q) self ⌝ }
-        ensures { λ r. ⌜ Found (now (q .entry)) self r ⌝ }
+    // The first formula with a connective, the left side before the right, where there is none before a place of the list.
+    pub fn first_compound(self, items: &[u8; 80], from: usize) -> Place
+        requires { ⌜
+            (self .lefts + self .rights ≤ ROOM)
+            × (length (now items) ≡ ROOM)
+            × Clear from (now items) self ⌝ }
+        ensures { λ r. ⌜ Found (view self (now (items .entry))) r ⌝ }
     {
-        let n = self.lefts;
-        let i = first_on(q, &self.items, Side::Left, n);
-        if i < n {
-            return Place::At(Side::Left, i, self.items[i]);
+        let n = self.lefts + self.rights;
+        let i = first_from(items, from, n);
+        if i == n {
+            return Place::Nowhere;
         }
-        let m = self.rights;
-        let j = first_on(q, &self.items, Side::Right, m);
-        if j < m {
-            return Place::At(Side::Right, j, self.items[79 - j]);
+        if i < self.lefts {
+            return Place::At(Side::Left, i);
         }
-        Place::Nowhere
+        Place::At(Side::Right, i - self.lefts)
+    }
+
+    // How the compound at a place of a side reduces.
+    pub fn reduction(self, nodes: &[u32; 48], items: &[u8; 80], side: Side, at: usize) -> Reduction
+        requires { ⌜
+            Good (now nodes) (now items) self
+            × (at < countOf side self)
+            × (LETTERS ≤ nameAt side at (view self (now items))) ⌝ }
+        ensures { λ r. ⌜ r ≡ reductionAt (now (nodes .entry)) side at (view self (now (items .entry))) ⌝ }
+    {
+        let k = self.slot(side, at);
+        let n = wide(items[k] - LETTERS);
+        let node = nodes[n];
+        let b = low(node);
+        Reduction {
+            side: side,
+            at: at,
+            connective: b,
+            rule: rule_of(b, side),
+            f: low(node / 256),
+            g: low(node / 65536),
+        }
+    }
+}
+
+impl Running {
+    // A formula that a question starts with, at the end of a side: the left side is filled first.
+    pub fn push(mut self, items: &mut [u8; 80], side: Side, name: u8) -> Running
+        requires { ⌜
+            (self .lefts + self .rights < ROOM) × (length (now items) ≡ ROOM) × (side ≡ Side.Left → self .rights ≡ 0) ⌝ }
+        ensures { λ r. ⌜ Pushed side name self (now (items .entry)) (now (items .exit)) r ⌝ }
+    {
+        let n = self.lefts + self.rights;
+        items[n] = name;
+        let bit = mark(true, name);
+        match side {
+            Side::Left => {
+                self.lefts = self.lefts + 1;
+                self.leftmask = self.leftmask | bit;
+                return self;
+            }
+            Side::Right => {
+                self.rights = self.rights + 1;
+                self.rightmask = self.rightmask | bit;
+                return self;
+            }
+        }
     }
 }

@@ -1,4 +1,0 @@
--- The laws behind the functions' proofs. Assumes nothing.
-pub mod Seconds
-pub mod Reductions
-pub mod Roots

@@ -1,2 +1,0 @@
--- Reducing the formula at a position of the question.
-pub mod Reduction

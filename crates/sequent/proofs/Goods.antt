@@ -1,0 +1,212 @@
+-- What holds of a running sequent that a run or a check meets, and of the premises made of it.
+-- Assumes nothing.
+use mathlib.Core.Path.{_≡_, refl, sym, ap, _∙_, subst}
+use mathlib.Core.Bool.{true, false}
+use mathlib.Core.Option.{Option, some}
+use mathlib.Core.List.{List, [], _∷_, _++_, map}
+use Prim.Native.Nat.{ℕ, suc, _+_, _%_, _^_, _≤_, _<_}
+use native.Mathlib.Omega.{arith}
+use native.Mathlib.Decide.{decLt}
+use lib.Bits.{bitOr}
+use lib.Dec.{ltb}
+use lib.ListN.{length, take, drop, getD, getElem?, length-map, length-drop}
+use lib.Seq.{length-take-le, getD-take, getD-drop}
+use borrow.Author.Tests.{lt-ltb, le-ltb}
+use Rattle.calculus.specs.declared.Side.{Side}
+use Rattle.calculus.specs.declared.Side.the-variants.{Left, Right}
+use Rattle.calculus.specs.Fold.{fold, ANY, SUM, Each, choose}
+use Rattle.calculus.specs.Limits.{ROOM, LETTERS, CONNECTIVES}
+use Rattle.calculus.specs.Syntax.{Connective, NOT, two, Formula, letter, neg, join, Compound, compound, whole, Seq, Sequent, on-side, size}
+use Rattle.calculus.specs.Table.{premise, premises, table, on}
+use Rattle.calculus.specs.Tree.{letters, state, missing, here, later, first}
+use Rattle.calculus.proofs.Folds.{each-append}
+use Rattle.calculus.proofs.Sequents.{Due}
+use Rattle.sequent.specs.declared.Placing.{Placing}
+use Rattle.sequent.specs.declared.Rule.{Rule}
+use Rattle.sequent.specs.declared.Running.{Running}
+use Rattle.sequent.specs.declared.Built.{Built}
+use Rattle.sequent.specs.declared.Reduction.{Reduction}
+use Rattle.sequent.specs.declared.Place.the-variants.{At, Nowhere}
+use Rattle.sequent.specs.Names.{nodeOf, firstOf, secondOf, formulaIn, Known}
+use Rattle.sequent.specs.Rule.{ruleOf, partsOn, placed, premisesOf, sided, placings, overfullOf}
+use Rattle.sequent.specs.View.{view, countOf, maskOf, slotOf, startOf, nameAt, named, sequentOf, bitOf, lettersOf, Masked, Good}
+use Rattle.sequent.specs.Passes.{Builds}
+use Rattle.sequent.specs.Compounds.{firstIn, Clear, Found, compoundOf, IsCompound, compoundAt, reductionAt}
+use Rattle.sequent.proofs.Lists.{on-left, on-right, element, each-splice, each-parts, each-at, ones}
+use Rattle.sequent.proofs.Rows.{rows-of}
+use Rattle.sequent.proofs.Masks.{letterBit, state-fold, OR}
+use Rattle.sequent.proofs.Letters.{letters-fold, masked-premise}
+use Rattle.sequent.proofs.Namings.{letter-named, Compounded, compound-named, rule-connective}
+use Rattle.sequent.proofs.Rules.{rule-premises, rule-full, rule-stores, size-named}
+use Rattle.sequent.proofs.Restarts.{found-inside, found-name, restarts}
+
+-- ---- names that are known: their letters, and the first compound
+
+module _ (T : List ℕ) (full : length T ≡ CONNECTIVES) where
+  name-bit : (d : ℕ) → Known T d → bitOf d ≡ letterBit (formulaIn T d)
+  name-bit d k = go (decLt d LETTERS)
+    where
+      none : (x : Formula) → x ≡ whole (compoundOf x) → 0 ≡ letterBit x
+      none x e = rw e (by (compoundOf x .connective))
+        where
+          by : (c : Connective) → 0 ≡ letterBit (compound c (compoundOf x .f) (compoundOf x .g))
+          by NOT = refl
+          by (two b) = refl
+
+      go : Dec (d < LETTERS) → bitOf d ≡ letterBit (formulaIn T d)
+      go (yes h) = rw (lt-ltb d LETTERS h, letter-named T full d k h)
+      go (no h) = rw (le-ltb d LETTERS (omega arith)) (none (formulaIn T d) (compound-named T full d k (omega arith) .stands))
+
+  names-letters : (ns : List ℕ) → Each (Known T) ns → lettersOf ns ≡ state (letters (map (formulaIn T) ns))
+  names-letters ns h = go ns h ∙ sym (state-fold (map (formulaIn T) ns))
+    where
+      go : (ns : List ℕ) → Each (Known T) ns → lettersOf ns ≡ fold OR letterBit (map (formulaIn T) ns)
+      go [] h = refl
+      go (d ∷ ns) h = rw (name-bit d (h .0), go ns (h .1))
+
+  first-compound : (x : Formula) (xs : List Formula) → IsCompound x → first (x ∷ xs) ≡ here 0 (compoundOf x)
+  first-compound (letter k) xs e = let z : _≡_ {A = ℕ} 0 1 = cc in absurd (omega arith)
+  first-compound (neg x) xs e = refl
+  first-compound (join b x y) xs e = refl
+
+  first-found : (ns : List ℕ) → Each (Known T) ns → firstIn ns < length ns → first (map (formulaIn T) ns) ≡ here (firstIn ns) (compoundOf (formulaIn T (getD ns (firstIn ns) 0)))
+  first-found [] k h = absurd (omega arith)
+  first-found (d ∷ ns) k h = go (decLt d LETTERS) (first-found ns (k .1))
+    where
+      go : Dec (d < LETTERS) → (firstIn ns < length ns → first (map (formulaIn T) ns) ≡ here (firstIn ns) (compoundOf (formulaIn T (getD ns (firstIn ns) 0)))) → first (map (formulaIn T) (d ∷ ns)) ≡ here (firstIn (d ∷ ns)) (compoundOf (formulaIn T (getD (d ∷ ns) (firstIn (d ∷ ns)) 0)))
+      go (yes l) ih =
+          let e = lt-ltb d LETTERS l in
+          let i : firstIn ns < length ns = omega (arith, rw e at h) in
+          rw (letter-named T full d (k .0) l, e) (ap later (ih i))
+      go (no l) ih =
+          rw (le-ltb d LETTERS (omega arith)) (first-compound (formulaIn T d) (map (formulaIn T) ns) (compound-named T full d (k .0) (omega arith) .stands))
+
+  first-missing : (ns : List ℕ) → Each (Known T) ns → firstIn ns ≡ length ns → first (map (formulaIn T) ns) ≡ missing
+  first-missing [] k h = refl
+  first-missing (d ∷ ns) k h = go (decLt d LETTERS) (first-missing ns (k .1))
+    where
+      go : Dec (d < LETTERS) → (firstIn ns ≡ length ns → first (map (formulaIn T) ns) ≡ missing) → first (map (formulaIn T) (d ∷ ns)) ≡ missing
+      go (yes l) ih =
+          let i : firstIn ns ≡ length ns = omega (arith, rw (lt-ltb d LETTERS l) at h) in
+          rw (letter-named T full d (k .0) l) (ap later (ih i))
+      go (no l) ih = absurd (omega (arith, rw (le-ltb d LETTERS (omega arith)) at h))
+
+-- ---- a running sequent
+
+module _ (T items : List ℕ) (s : Running) (good : Good T items s) where
+  -- each side's names are as many as its count says
+  pub held : (t : Side) → length (on-side t (view s items)) ≡ countOf t s
+  held Left = length-take-le (s .lefts) items (omega (arith, good .room, good .places))
+  held Right = length-take-le (s .rights) (drop (s .lefts) items) (omega (arith, good .room, good .places, length-drop (s .lefts) items))
+
+  pub size-held : size (view s items) ≡ s .lefts + s .rights
+  size-held = omega (arith, ones (view s items .on-left), ones (view s items .on-right), held Left, held Right)
+
+  pub masks-state : (t : Side) → maskOf t s ≡ state (letters (on-side t (sequentOf T items s)))
+  masks-state Left = good .masks Left ∙ names-letters T (good .nodes) (view s items .on-left) (good .known Left)
+  masks-state Right = good .masks Right ∙ names-letters T (good .nodes) (view s items .on-right) (good .known Right)
+
+  -- "the first formula with a connective, the left side before the right"
+  pub found-left : (i : ℕ) → Found (view s items) (At Left i) → first (sequentOf T items s .on-left) ≡ here i (compoundAt T Left i (view s items))
+  found-left i h = rw (h .0) (first-found T (good .nodes) (view s items .on-left) (good .known Left) (rw (h .0) at (h .1)))
+
+  pub found-right : (i : ℕ) → Found (view s items) (At Right i) → (first (sequentOf T items s .on-left) ≡ missing) × (first (sequentOf T items s .on-right) ≡ here i (compoundAt T Right i (view s items)))
+  found-right i h = (first-missing T (good .nodes) (view s items .on-left) (good .known Left) (h .0), rw (h .1) (first-found T (good .nodes) (view s items .on-right) (good .known Right) (rw (h .1) at (h .2))))
+
+  pub found-nowhere : Found (view s items) Nowhere → (first (sequentOf T items s .on-left) ≡ missing) × (first (sequentOf T items s .on-right) ≡ missing)
+  found-nowhere h = (first-missing T (good .nodes) (view s items .on-left) (good .known Left) (h .0), first-missing T (good .nodes) (view s items .on-right) (good .known Right) (h .1))
+
+  -- ---- a place of a side
+
+  module _ (t : Side) (i : ℕ) (h : i < countOf t s) where
+    pub inside : i < length (on-side t (view s items))
+    inside = omega (arith, held t)
+
+    pub slot-name : getD items (slotOf t i s) 0 ≡ nameAt t i (view s items)
+    slot-name = go t h
+      where
+        go : (u : Side) → i < countOf u s → getD items (slotOf u i s) 0 ≡ nameAt u i (view s items)
+        go Left k = sym (getD-take (s .lefts) items i 0 k)
+        go Right k = sym (getD-take (s .rights) (drop (s .lefts) items) i 0 k ∙ getD-drop (s .lefts) items i 0)
+
+    pub known-at : Known T (nameAt t i (view s items))
+    known-at = each-at (Known T) (on-side t (view s items)) i 0 (good .known t) inside
+
+    pub formula-at : getElem? (on-side t (sequentOf T items s)) i ≡ some (formulaIn T (nameAt t i (view s items)))
+    formula-at = go t inside
+      where
+        go : (u : Side) → i < length (on-side u (view s items)) → getElem? (on-side u (sequentOf T items s)) i ≡ some (formulaIn T (nameAt u i (view s items)))
+        go Left k = element (formulaIn T) (view s items .on-left) i 0 k
+        go Right k = element (formulaIn T) (view s items .on-right) i 0 k
+
+    module _ (c : LETTERS ≤ nameAt t i (view s items)) where
+      pub compounded : Compounded T (good .nodes) (nameAt t i (view s items))
+      compounded = compound-named T (good .nodes) (nameAt t i (view s items)) known-at c
+
+      -- the compound stands there
+      pub stands : Due (sequentOf T items s) t i (compoundAt T t i (view s items))
+      stands = formula-at ∙ ap {B = Option Formula} some (compounded .stands)
+
+      module _ (r : Reduction) (e : r ≡ reductionAt T t i (view s items)) where
+        abbrev x : Compound
+        x = compoundAt T t i (view s items)
+
+        rule-is : r .rule ≡ ruleOf (x .connective) t
+        rule-is = ap (λ (u : Reduction). u .rule) e ∙ ap (λ (k : Connective). ruleOf k t) (rule-connective T (good .nodes) (nameAt t i (view s items)) compounded)
+
+        rows : premisesOf (r .rule) ≡ map sided (table (x .connective) t)
+        rows = rows-of (x .connective) t (r .rule) rule-is
+
+        first-part : formulaIn T (r .f) ≡ x .f
+        first-part = ap (λ (u : Reduction). formulaIn T (u .f)) e ∙ compounded .first
+
+        second-part : formulaIn T (r .g) ≡ x .g
+        second-part = ap (λ (u : Reduction). formulaIn T (u .g)) e ∙ compounded .second
+
+        -- the sequent of a premise, by where its parts go
+        abbrev pub premiseOf : Placing → Sequent
+        premiseOf p = named (formulaIn T) (premise t i (view s items) (placed p (r .f) (r .g)))
+
+        pub premises-are : map premiseOf (placings (r .rule)) ≡ premises t i x (sequentOf T items s)
+        premises-are = rule-premises (formulaIn T) (view s items) t i (r .f) (r .g) x first-part second-part (r .rule) rows
+
+        -- the stores of all premises are their formulas, for any row of the table
+        pub stores-are : fold SUM (λ p. size (premise t i (view s items) (placed p (r .f) (r .g)))) (placings (r .rule)) ≡ fold SUM size (premises t i x (sequentOf T items s))
+        stores-are = rule-stores (formulaIn T) (view s items) t i (r .f) (r .g) x first-part second-part (r .rule) rows
+
+        pub full-is : fold ANY (λ P. ltb ROOM (size P)) (premises t i x (sequentOf T items s)) ≡ overfullOf (r .rule) (s .lefts + s .rights)
+        full-is = rule-full (formulaIn T) (view s items) t i (r .f) (r .g) x first-part second-part (r .rule) rows inside ∙ ap (overfullOf (r .rule)) size-held
+
+        -- ---- a premise made
+
+        module _ (p : Placing) (before new : List ℕ) (b : Built) (builds : Builds t i p (r .f) (r .g) s items before new b) (small : size (premiseOf p) ≤ ROOM) where
+          pub premise-is : sequentOf T new (b .running) ≡ premiseOf p
+          premise-is = ap (named (formulaIn T)) (builds .held)
+
+          known-parts : (u : Side) → Each (Known T) (partsOn u p (r .f) (r .g))
+          known-parts u =
+              each-parts (Known T) u p (r .f) (r .g)
+              (subst (Known T) (sym (ap (λ (v : Reduction). v .f) e)) (compounded .first-known))
+              (subst (Known T) (sym (ap (λ (v : Reduction). v .g) e)) (compounded .second-known))
+
+          known-premise : (v u : Side) → Each (Known T) (on-side u (premise v i (view s items) (placed p (r .f) (r .g))))
+          known-premise Left Left = rw (on-left (partsOn Left p (r .f) (r .g)) (partsOn Right p (r .f) (r .g))) (each-splice (Known T) i (partsOn Left p (r .f) (r .g)) (view s items .on-left) (known-parts Left) (good .known Left))
+          known-premise Left Right = rw (on-right (partsOn Left p (r .f) (r .g)) (partsOn Right p (r .f) (r .g))) (each-append (Known T) (view s items .on-right) (partsOn Right p (r .f) (r .g)) (good .known Right) (known-parts Right))
+          known-premise Right Left = rw (on-left (partsOn Left p (r .f) (r .g)) (partsOn Right p (r .f) (r .g))) (each-append (Known T) (view s items .on-left) (partsOn Left p (r .f) (r .g)) (good .known Left) (known-parts Left))
+          known-premise Right Right = rw (on-right (partsOn Left p (r .f) (r .g)) (partsOn Right p (r .f) (r .g))) (each-splice (Known T) i (partsOn Right p (r .f) (r .g)) (view s items .on-right) (known-parts Right) (good .known Right))
+
+          pub premise-good : Good T new (b .running)
+          premise-good =
+              record {
+                nodes = good .nodes;
+                places = builds .full;
+                room = omega (arith, builds .counted, builds .stores, small, size-named (formulaIn T) (premise t i (view s items) (placed p (r .f) (r .g))));
+                known = λ u. subst (λ (N : Seq ℕ). Each (Known T) (on-side u N)) (sym (builds .held)) (known-premise t u);
+                masks = masked-premise s (b .running) items new t i p (r .f) (r .g) (good .masks) inside c (builds .held) (builds .masks);
+              }
+
+          -- letters alone stand before where it is searched from, if the first compound was reduced
+          pub premise-clear : Found (view s items) (At t i) → Clear (startOf t i s) new (b .running)
+          premise-clear found =
+              let w = restarts s items (good .places) (good .room) t i found (placed p (r .f) (r .g)) (b .running) new (builds .held) in
+              record { inside = omega (arith, w .0); letters = w .1 }

@@ -1,0 +1,72 @@
+-- Lists: parts of them, places that make way, elements.
+-- Assumes nothing.
+use mathlib.Core.Path.{_≡_, refl, ap}
+use mathlib.Core.Bool.{Bool, true, false}
+use mathlib.Core.Option.{some}
+use mathlib.Core.List.{List, [], _∷_, _++_, map, map-append}
+use Prim.Native.Nat.{ℕ, zero, suc, _+_, _<_}
+use native.Mathlib.Omega.{arith}
+use lib.Dec.{eqb}
+use lib.ListN.{length, take, drop, getD, getElem?, length-append, length-take, length-drop}
+use Rattle.calculus.specs.declared.Side.{Side}
+use Rattle.calculus.specs.declared.Side.the-variants.{Left, Right}
+use Rattle.calculus.specs.Fold.{fold, SUM, Each}
+use Rattle.calculus.specs.Table.{L, R, on, splice}
+use Rattle.calculus.proofs.Folds.{each-append}
+use Rattle.sequent.specs.declared.Placing.{Placing}
+use Rattle.sequent.specs.Rule.{sideCode, keep, partsOn, countOne}
+
+pub on-left : {X : Type 0} (xs ys : List X) → on Left (map (λ z. L z) xs ++ map (λ z. R z) ys) ≡ xs
+on-left {X} (x ∷ xs) ys = ap (λ (l : List X). x ∷ l) (on-left xs ys)
+on-left [] [] = refl
+on-left [] (y ∷ ys) = on-left [] ys
+
+pub on-right : {X : Type 0} (xs ys : List X) → on Right (map (λ z. L z) xs ++ map (λ z. R z) ys) ≡ ys
+on-right (x ∷ xs) ys = on-right xs ys
+on-right [] [] = refl
+on-right {X} [] (y ∷ ys) = ap (λ (l : List X). y ∷ l) (on-right [] ys)
+
+pub element : {X Y : Type 0} (f : X → Y) (xs : List X) (i : ℕ) (d : X) → i < length xs → getElem? (map f xs) i ≡ some (f (getD xs i d))
+element f [] i d h = absurd (omega arith)
+element f (x ∷ xs) zero d h = refl
+element f (x ∷ xs) (suc i) d h = element f xs i d (omega arith)
+
+pub map-splice : {X Y : Type 0} (f : X → Y) (i : ℕ) (new xs : List X) → map f (splice i new xs) ≡ splice i (map f new) (map f xs)
+map-splice f zero new [] = map-append f new []
+map-splice f zero new (x ∷ xs) = map-append f new xs
+map-splice f (suc i) new [] = map-append f new []
+map-splice {X} {Y} f (suc i) new (x ∷ xs) = ap (λ (l : List Y). f x ∷ l) (map-splice f i new xs)
+
+pub splice-size : {X : Type 0} (xs new : List X) (i : ℕ) → i < length xs → length (splice i new xs) + 1 ≡ length xs + length new
+splice-size xs new i h =
+    omega (arith, length-append (take i xs) (new ++ drop (suc i) xs), length-append new (drop (suc i) xs), length-take i xs, length-drop (suc i) xs)
+
+pub ones : {X : Type 0} (xs : List X) → fold SUM (λ x. 1) xs ≡ length xs
+ones [] = refl
+ones (x ∷ xs) = omega (arith, ones xs)
+
+pub kept : {X : Type 0} (x y : X) (a b : Bool) → fold SUM (λ x. 1) (keep a x ++ keep b y) ≡ countOne a + countOne b
+kept x y true true = refl
+kept x y true false = refl
+kept x y false true = refl
+kept x y false false = refl
+
+-- ---- a fact of each element
+
+pub each-splice : {X : Type 0} (Q : X → Type 0) (i : ℕ) (new xs : List X) → Each Q new → Each Q xs → Each Q (splice i new xs)
+each-splice Q zero new [] h k = each-append Q new [] h tt
+each-splice Q zero new (x ∷ xs) h k = each-append Q new xs h (k .1)
+each-splice Q (suc i) new [] h k = each-append Q new [] h tt
+each-splice Q (suc i) new (x ∷ xs) h k = (k .0, each-splice Q i new xs h (k .1))
+
+pub each-parts : (Q : ℕ → Type 0) (t : Side) (p : Placing) (f g : ℕ) → Q f → Q g → Each Q (partsOn t p f g)
+each-parts Q t p f g h k = each-append Q (keep (eqb (p .f) (sideCode t)) f) (keep (eqb (p .g) (sideCode t)) g) (one (eqb (p .f) (sideCode t)) f h) (one (eqb (p .g) (sideCode t)) g k)
+  where
+    one : (b : Bool) (x : ℕ) → Q x → Each Q (keep b x)
+    one true x h = (h, tt)
+    one false x h = tt
+
+pub each-at : {X : Type 0} (Q : X → Type 0) (xs : List X) (i : ℕ) (d : X) → Each Q xs → i < length xs → Q (getD xs i d)
+each-at Q [] i d h k = absurd (omega arith)
+each-at Q (x ∷ xs) zero d h k = h .0
+each-at Q (x ∷ xs) (suc i) d h k = each-at Q xs i d (h .1) (omega arith)

@@ -1,0 +1,71 @@
+use mathlib.Core.Path.{_≡_, sym, ap, _∙_}
+use Prim.Native.Nat.{ℕ, _-_, _%_}
+use native.Mathlib.Omega.{arith}
+use borrow.Author.Needs.{needs}
+use lib.ListN.{getD}
+use Rattle.calculus.specs.Bytes.{CONNECTIVE, code}
+use Rattle.calculus.specs.Limits.{LETTERS}
+use Rattle.calculus.specs.Syntax.{Connective}
+use Rattle.question.proofs.Readers.{connective-range}
+use Rattle.sequent.specs.Names.{nodeOf, firstOf, secondOf, formulaIn}
+use Rattle.sequent.specs.Rule.{ruleOf}
+use Rattle.sequent.specs.View.{view, nameAt}
+use Rattle.sequent.specs.Compounds.{compoundOf}
+use Rattle.sequent.proofs.Goods.{slot-name, compounded}
+use Rattle.sequent.proofs.Namings.{Compounded, rule-connective}
+use Rattle.sequent.proofs.Running.reduction.Statement.{statement}
+use Rattle.sequent.proofs.Running.reduction.Tie as tie
+
+-- the name at the place
+abbrev at-place : tie.Start → ℕ
+at-place s = let a = s .args in nameAt (a .side) (a .at) (view (a .self) (a .items .now))
+
+compound-now : (s : tie.Start) → Compounded (s .args .nodes .now) (s .pre .0 .nodes) (at-place s)
+compound-now s = let a = s .args in compounded (a .nodes .now) (a .items .now) (a .self) (s .pre .0) (a .side) (a .at) (s .pre .1) (s .pre .2)
+
+name-now : (c : tie.After-slot) → getD (c .before .args .items .now) (c .slot .result) 0 ≡ at-place (c .before)
+name-now c =
+    let s = c .before in
+    let a = s .args in
+    ap (λ (k : ℕ). getD (a .items .now) k 0) (c .slot .ensures .0) ∙ slot-name (a .nodes .now) (a .items .now) (a .self) (s .pre .0) (a .side) (a .at) (s .pre .1)
+
+number-now : (c : tie.After-wide) → c .wide .result ≡ at-place (c .before .before .before) - LETTERS
+number-now c = c .wide .ensures ∙ ap (λ (d : ℕ). d - LETTERS) (name-now (c .before .before))
+
+node-now : (c : tie.After-wide) → getD (c .before .before .before .args .nodes .now) (c .wide .result) 0 ≡ nodeOf (c .before .before .before .args .nodes .now) (at-place (c .before .before .before))
+node-now c = ap (λ (n : ℕ). getD (c .before .before .before .args .nodes .now) n 0) (number-now c)
+
+pub reduction-spec : {M : Type 1} → statement M
+reduction-spec =
+    tie.close
+    (tie.spec
+    (λ c κs. search needs)
+    (λ c. search needs)
+    (λ c. rw (name-now (c .before)) (c .before .before .pre .2))
+    (λ c κs. search needs)
+    (λ c. omega (arith, number-now c, compound-now (c .before .before .before) .inside))
+    (λ c. omega (arith, number-now c, compound-now (c .before .before .before) .inside))
+    (λ c κs. search needs)
+    (λ c κs.
+    let s = c .before .before .before .before .before in
+    let k = compoundOf (formulaIn (s .args .nodes .now) (at-place s)) .connective in
+    let e : c .low .result ≡ code (CONNECTIVE k) = c .low .ensures ∙ ap (λ (w : ℕ). w % 256) (node-now (c .before .before)) ∙ compound-now s .command in
+    rw e (connective-range k))
+    (λ c κs. search needs)
+    (λ c κs. search needs)
+    (λ c.
+    let s = c .before .before .before .before .before .before .before .before in
+    let a = s .args in
+    let d = at-place s in
+    let k = compoundOf (formulaIn (a .nodes .now) d) .connective in
+    let n = node-now (c .before .before .before .before .before) in
+    let b : c .before .before .before .low .result ≡ nodeOf (a .nodes .now) d % 256 = c .before .before .before .low .ensures ∙ ap (λ (w : ℕ). w % 256) n in
+    let r = c .before .before .rule-of .ensures k (sym (b ∙ compound-now s .command)) ∙ ap (λ (j : Connective). ruleOf j (a .side)) (sym (rule-connective (a .nodes .now) (s .pre .0 .nodes) d (compound-now s))) in
+    λ i. record {
+      side = a .side;
+      at = a .at;
+      connective = b i;
+      rule = r i;
+      f = (c .before .low2 .ensures ∙ ap firstOf n) i;
+      g = (c .low3 .ensures ∙ ap secondOf n) i;
+    }))

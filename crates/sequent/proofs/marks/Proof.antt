@@ -1,0 +1,18 @@
+use mathlib.Core.Path.{sym}
+use lib.Dec.{eqb}
+use borrow.Author.Needs.{needs}
+use Rattle.sequent.specs.Rule.{sideCode, keep}
+use Rattle.sequent.proofs.Letters.{letters-append}
+use Rattle.sequent.proofs.marks.Statement.{statement}
+use Rattle.sequent.proofs.marks.Tie as tie
+
+pub marks-spec : {M : Type 1} → statement M
+marks-spec =
+    tie.close
+    (tie.spec
+    (λ c κs. search needs)
+    (λ c κs. search needs)
+    (λ c κs. search needs)
+    (λ c.
+    let a = c .before .before .before .before .before .args in
+    rw (c .mark2 .ensures, c .before .before .mark .ensures, c .before .before .before .before .side-code .ensures .0) (sym (letters-append (keep (eqb (a .p .f) (sideCode (a .side))) (a .f)) (keep (eqb (a .p .g) (sideCode (a .side))) (a .g))))))
