@@ -1,25 +1,32 @@
-// The inner step on a running sequent, and the call that decides.
+// The inner step on a running sequent, the run made from it, and the call that decides.
+use calculus::Kind;
+use calculus::Outcome;
 use calculus::Side;
 use calculus::Verdict;
-use calculus::wide;
 use question::Reading;
 use question::Refusal;
 use sequent::Place;
+use sequent::Placing;
 use sequent::ROOM;
+use sequent::Reduction;
 use sequent::Rule;
 use sequent::Running;
 ghost use mathlib.Core.Path.{_≡_};
 ghost use Prim.Native.Nat.{_+_, _≤_, _<_};
+ghost use Rattle.calculus.specs.Fold.{fold, SUM};
 ghost use Rattle.calculus.specs.Limits;
+ghost use Rattle.calculus.specs.Limits.{LETTERS, CONNECTIVES};
+ghost use Rattle.calculus.specs.Syntax.{c, size};
 ghost use Rattle.calculus.specs.Bytes.{question};
 ghost use Rattle.calculus.specs.Reading.{reading, accepted};
 ghost use Rattle.calculus.specs.Reply.{decideReply};
-ghost use Rattle.calculus.specs.Tree.{verdict, afford, due};
-ghost use Rattle.sequent.specs.View.{sequentOf, Good};
-ghost use Rattle.sequent.specs.Compounds.{compoundAt, FoundAt};
-ghost use Rattle.reduction.specs.Reduction.{overfullOf};
+ghost use Rattle.calculus.specs.Tree.{verdict, outcome, afford, due, pass};
+ghost use Rattle.sequent.specs.Rule.{overfullOf};
+ghost use Rattle.sequent.specs.View.{view, countOf, nameAt, sequentOf, Good};
+ghost use Rattle.sequent.specs.Compounds.{Clear, compoundAt, Reducible};
 ghost use Rattle.prover.specs.Answers.{decisionOf, Promised};
-ghost use Rattle.prover.specs.Inner.{innerOf, Ready, Stepped};
+ghost use Rattle.prover.specs.Inner.{innerOf, Ready, Stepped, premisesOf, premiseAt, Runs, Made};
+ghost use Rattle.prover.specs.Runs.{made, outcomeOf, Running-on, Due};
 
 // What is due at a sequent, with the reductions left.
 pub enum Finding {
@@ -29,65 +36,147 @@ pub enum Finding {
     Open(u32),
     Full,
     Spent,
-    // The place of the first compound, and its position.
-    Reduce(Side, usize, u8),
+    // How the first compound reduces.
+    Reduce(Reduction),
+}
+
+// What a reduction comes to, and the stores made for its premises.
+pub struct Reduced {
+    pub kind: Kind,
+    pub unspent: u64,
+    pub closings: u64,
+    pub stores: usize,
 }
 
 // Whether a premise of the rule would hold more formulas than there is room for, n being held now.
 fn overfull(rule: Rule, n: usize) -> bool
-    requires { ⌜ n ≤ Limits.ROOM ⌝ }
-    ensures { λ r. ⌜ r ≡ overfullOf rule n ⌝ }
 {
-    if ROOM + 1 < n + reduction::placed(rule.first) {
+    if ROOM + 1 < n + sequent::placed(rule.first) {
         return true;
     }
     if rule.premises == 2 {
-        return ROOM + 1 < n + reduction::placed(rule.second);
+        return ROOM + 1 < n + sequent::placed(rule.second);
     }
     false
 }
 
 // The tests at a sequent whose first compound is at a place of a side: FULL, SPENT, then the reduction.
-fn due_at(q: &[u8], s: Running, side: Side, at: usize, p: u8, left: u64) -> Finding
-    requires { ⌜ Good (now q) s × FoundAt (now q) s side at p ⌝ }
-    ensures { λ r. ⌜
-        (innerOf (now (q .entry)) r
-        ≡ afford left (due (sequentOf (now (q .entry)) s) side at (compoundAt (now (q .entry)) p)))
-        × Ready (now (q .entry)) s left r ⌝ }
+fn due_at(nodes: &[u32; 48], items: &[u8; 80], s: Running, side: Side, at: usize, left: u64) -> Finding
 {
-    let rule = sequent::rule_of(q[wide(p)], side);
+    let r = s.reduction(nodes, items, side, at);
+    let rule = r.rule;
     if overfull(rule, s.lefts + s.rights) {
         return Finding::Full;
     }
     if left == 0 {
         return Finding::Spent;
     }
-    Finding::Reduce(side, at, p)
+    Finding::Reduce(r)
 }
 
 // The inner step: one sequent through the tests in their order, with the reductions left. Its answer says what is due and
-// does nothing, so that no run made from it goes on after SPENT.
-pub fn step(q: &[u8], s: Running, left: u64) -> Finding
-    requires { ⌜ Good (now q) s ⌝ }
-    ensures { λ r. ⌜ Stepped (now (q .entry)) s left r ⌝ }
+// does nothing, so that no run made from it goes on after SPENT. Letters alone stand before place `from`.
+pub fn step(nodes: &[u32; 48], items: &[u8; 80], s: Running, from: usize, left: u64) -> Finding
 {
     let shared = s.leftmask & s.rightmask;
     if shared != 0 {
         return Finding::Closed(u32::trailing_zeros(shared));
     }
-    let place = s.first_compound(q);
+    let place = s.first_compound(items, from);
     match place {
-        Place::At(side, at, p) => due_at(q, s, side, at, p, left),
+        Place::At(side, at) => due_at(nodes, items, s, side, at, left),
         Place::Nowhere => Finding::Open(s.leftmask),
+    }
+}
+
+fn ended(kind: Kind, left: u64, closings: u64) -> Outcome
+{
+    Outcome {
+        kind: kind,
+        unspent: left,
+        closings: closings,
+    }
+}
+
+// The run: reductions left go in and come out.
+fn run(nodes: &[u32; 48], items: &[u8; 80], s: Running, from: usize, left: u64) -> Outcome
+{
+    let due = step(nodes, items, s, from, left);
+    match due {
+        Finding::Closed(_) => ended(Kind::Theorem, left, 1),
+        Finding::Open(state) => ended(Kind::Refuted(state), left, 0),
+        Finding::Full => ended(Kind::Full, left, 0),
+        Finding::Spent => ended(Kind::Spent, left, 0),
+        Finding::Reduce(r) => {
+            let o = reduce(nodes, items, s, r, left - 1);
+            let kind = o.kind;
+            ended(kind, o.unspent, o.closings)
+        }
+    }
+}
+
+// A premise of the reduction, made and run.
+fn run_premise(nodes: &[u32; 48], items: &[u8; 80], s: Running, r: Reduction, p: Placing, left: u64) -> Reduced
+{
+    let side = r.side;
+    let mut next = [0u8; 80];
+    let made = s.premise(items, &mut next, side, r.at, p, r.f, r.g);
+    let t = made.running;
+    let o = run(nodes, &next, t, s.start(side, r.at), left);
+    let kind = o.kind;
+    Reduced {
+        kind: kind,
+        unspent: o.unspent,
+        closings: o.closings,
+        stores: made.stores,
+    }
+}
+
+// The reduction that is due: the first premise is finished, then the second is taken up.
+fn reduce(nodes: &[u32; 48], items: &[u8; 80], s: Running, r: Reduction, left: u64) -> Reduced
+{
+    let rule = r.rule;
+    let n = rule.premises;
+    let mut p = rule.first;
+    let mut unspent = left;
+    let mut closings = 0;
+    let mut stores = 0;
+    let mut j = 0;
+    while j < n {
+        let o = run_premise(nodes, items, s, r, p, unspent);
+        unspent = o.unspent;
+        closings += o.closings;
+        stores += o.stores;
+        let kind = o.kind;
+        match kind {
+            Kind::Theorem => {}
+            _ => {
+                return Reduced {
+                    kind: kind,
+                    unspent: unspent,
+                    closings: closings,
+                    stores: stores,
+                };
+            }
+        }
+        p = rule.second;
+        j += 1;
+    }
+    Reduced {
+        kind: Kind::Theorem,
+        unspent: unspent,
+        closings: closings,
+        stores: stores,
     }
 }
 
 // The verdict of an accepted question.
 pub fn verdict_of(q: &[u8], budget: u64) -> Verdict
-    requires { ⌜ reading (now q) ≡ accepted ⌝ }
-    ensures { λ r. ⌜ r ≡ verdict budget (question (now (q .entry))) ⌝ }
 {
-    let o = decider::run_question(q, budget);
+    let mut nodes = [0u32; 48];
+    let mut items = [0u8; 80];
+    let s = names::root(q, &mut nodes, &mut items);
+    let o = run(&nodes, &items, s, 0, budget);
     let kind = o.kind;
     Verdict {
         kind: kind,

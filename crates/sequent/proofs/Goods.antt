@@ -16,11 +16,11 @@ use Rattle.calculus.specs.declared.Side.{Side}
 use Rattle.calculus.specs.declared.Side.the-variants.{Left, Right}
 use Rattle.calculus.specs.Fold.{fold, ANY, SUM, Each, choose}
 use Rattle.calculus.specs.Limits.{ROOM, LETTERS, CONNECTIVES}
-use Rattle.calculus.specs.Syntax.{Connective, NOT, two, Formula, letter, neg, join, Compound, compound, whole, Seq, Sequent, on-side, size}
+use Rattle.calculus.specs.Syntax.{Connective, NOT, two, Formula, letter, neg, join, Compound, compound, whole, Seq, Sequent, on-side, c, size}
 use Rattle.calculus.specs.Table.{premise, premises, table, on}
 use Rattle.calculus.specs.Tree.{letters, state, missing, here, later, first}
 use Rattle.calculus.proofs.Folds.{each-append}
-use Rattle.calculus.proofs.Sequents.{Due}
+use Rattle.calculus.proofs.Sequents.{Due, Smaller, smaller}
 use Rattle.sequent.specs.declared.Placing.{Placing}
 use Rattle.sequent.specs.declared.Rule.{Rule}
 use Rattle.sequent.specs.declared.Running.{Running}
@@ -31,13 +31,14 @@ use Rattle.sequent.specs.Names.{nodeOf, firstOf, secondOf, formulaIn, Kn
 use Rattle.sequent.specs.Rule.{ruleOf, partsOn, placed, premisesOf, sided, placings, overfullOf}
 use Rattle.sequent.specs.View.{view, countOf, maskOf, slotOf, startOf, nameAt, named, sequentOf, bitOf, lettersOf, Masked, Good}
 use Rattle.sequent.specs.Passes.{Builds}
-use Rattle.sequent.specs.Compounds.{firstIn, Clear, Found, compoundOf, IsCompound, compoundAt, reductionAt}
-use Rattle.sequent.proofs.Lists.{on-left, on-right, element, each-splice, each-parts, each-at, ones}
+use Rattle.sequent.specs.Compounds.{firstIn, Clear, Found, compoundOf, IsCompound, compoundAt, reductionAt, premisesAt, premiseBy, Reducible, Makes}
+use Rattle.sequent.proofs.Lists.{on-left, on-right, element, each-splice, each-parts, each-at, each-unmap, ones}
 use Rattle.sequent.proofs.Rows.{rows-of}
 use Rattle.sequent.proofs.Masks.{letterBit, state-fold, OR}
 use Rattle.sequent.proofs.Letters.{letters-fold, masked-premise}
 use Rattle.sequent.proofs.Namings.{letter-named, Compounded, compound-named, rule-connective}
 use Rattle.sequent.proofs.Rules.{rule-premises, rule-full, rule-stores, size-named}
+use Rattle.sequent.proofs.Placings.{OneOrTwo, one-or-two, Next, next-each}
 use Rattle.sequent.proofs.Restarts.{found-inside, found-name, restarts}
 
 -- ---- names that are known: their letters, and the first compound
@@ -180,9 +181,6 @@ module _ (T items : List ℕ) (s : Running) (good : Good T items s) where
         -- ---- a premise made
 
         module _ (p : Placing) (before new : List ℕ) (b : Built) (builds : Builds t i p (r .f) (r .g) s items before new b) (small : size (premiseOf p) ≤ ROOM) where
-          pub premise-is : sequentOf T new (b .running) ≡ premiseOf p
-          premise-is = ap (named (formulaIn T)) (builds .held)
-
           known-parts : (u : Side) → Each (Known T) (partsOn u p (r .f) (r .g))
           known-parts u =
               each-parts (Known T) u p (r .f) (r .g)
@@ -205,8 +203,61 @@ module _ (T items : List ℕ) (s : Running) (good : Good T items s) where
                 masks = masked-premise s (b .running) items new t i p (r .f) (r .g) (good .masks) inside c (builds .held) (builds .masks);
               }
 
-          -- letters alone stand before where it is searched from, if the first compound was reduced
-          pub premise-clear : Found (view s items) (At t i) → Clear (startOf t i s) new (b .running)
-          premise-clear found =
-              let w = restarts s items (good .places) (good .room) t i found (placed p (r .f) (r .g)) (b .running) new (builds .held) in
-              record { inside = omega (arith, w .0); letters = w .1 }
+  -- ---- a reduction that can be made
+
+  module _ (r : Reduction) (can : Reducible T items s r) where
+    pub premises-made : map (premiseBy T items s r) (placings (r .rule)) ≡ premisesAt T items s r
+    premises-made = premises-are (r .side) (r .at) (can .inside) (can .compound) r (can .exact)
+
+    -- the stores of all premises are their formulas, for any row of the table
+    pub stores-made : fold SUM (λ p. size (premise (r .side) (r .at) (view s items) (placed p (r .f) (r .g)))) (placings (r .rule)) ≡ fold SUM size (premisesAt T items s r)
+    stores-made = stores-are (r .side) (r .at) (can .inside) (can .compound) r (can .exact)
+
+    pub few : OneOrTwo (r .rule)
+    few = rw (rule-is (r .side) (r .at) (can .inside) (can .compound) r (can .exact)) (one-or-two (compoundAt T (r .side) (r .at) (view s items) .connective) (r .side))
+
+    each-premise : (Q : Sequent → Type 0) → Each Q (premisesAt T items s r) → Each (λ p. Q (premiseBy T items s r p)) (placings (r .rule))
+    each-premise Q h = each-unmap (premiseBy T items s r) Q (placings (r .rule)) (subst (Each Q) (sym premises-made) h)
+
+    fewer : Each (λ P. 1 + c P ≤ c (sequentOf T items s)) (premisesAt T items s r)
+    fewer = go (premisesAt T items s r) (smaller (r .side) (r .at) (compoundAt T (r .side) (r .at) (view s items)) (sequentOf T items s) (stands (r .side) (r .at) (can .inside) (can .compound)))
+      where
+        go : (Ps : List Sequent) → Each (Smaller (sequentOf T items s)) Ps → Each (λ P. 1 + c P ≤ c (sequentOf T items s)) Ps
+        go [] h = tt
+        go (P ∷ Ps) h = (h .0 .0, go Ps (h .1))
+
+    -- the next premise of a loop over the rule's
+    pub makes-next : (j : ℕ) (p : Placing) → Next (r .rule) j p → j < r .rule .premises → Makes T items s r p
+    makes-next j p n h =
+        record {
+          good = good;
+          can = can;
+          small = next-each (r .rule) few (λ p. size (premiseBy T items s r p) ≤ ROOM) (each-premise (λ P. size P ≤ ROOM) (can .fits)) j p n h;
+          fewer = next-each (r .rule) few (λ p. 1 + c (premiseBy T items s r p) ≤ c (sequentOf T items s)) (each-premise (λ P. 1 + c P ≤ c (sequentOf T items s)) fewer) j p n h;
+        }
+
+-- ---- a premise made
+
+module _ (T items : List ℕ) (s : Running) (r : Reduction) (p : Placing) (m : Makes T items s r p) where
+  -- what `premise` asks
+  pub premise-asks : (new : List ℕ) → length new ≡ ROOM
+      → (r .at < countOf (r .side) s) × (s .lefts + s .rights ≤ ROOM) × (length items ≡ ROOM) × (length new ≡ ROOM)
+      × (size (premise (r .side) (r .at) (view s items) (placed p (r .f) (r .g))) ≤ ROOM)
+  premise-asks new e =
+      (m .can .inside, m .good .room, m .good .places, e, omega (arith, m .small, size-named (formulaIn T) (premise (r .side) (r .at) (view s items) (placed p (r .f) (r .g)))))
+
+  module _ (before new : List ℕ) (b : Built) (builds : Builds (r .side) (r .at) p (r .f) (r .g) s items before new b) where
+    pub made-is : sequentOf T new (b .running) ≡ premiseBy T items s r p
+    made-is = ap (named (formulaIn T)) (builds .held)
+
+    pub made-good : Good T new (b .running)
+    made-good = premise-good T items s (m .good) (r .side) (r .at) (m .can .inside) (m .can .compound) r (m .can .exact) p before new b builds (m .small)
+
+    pub made-stores : b .stores ≡ size (premiseBy T items s r p)
+    made-stores = builds .stores ∙ sym (size-named (formulaIn T) (premise (r .side) (r .at) (view s items) (placed p (r .f) (r .g))))
+
+    -- letters alone stand before where it is searched from, if the first compound was reduced
+    pub made-clear : Found (view s items) (At (r .side) (r .at)) → Clear (startOf (r .side) (r .at) s) new (b .running)
+    made-clear found =
+        let w = restarts s items (m .good .places) (m .good .room) (r .side) (r .at) found (placed p (r .f) (r .g)) (b .running) new (builds .held) in
+        record { inside = omega (arith, w .0); letters = w .1 }

@@ -2,6 +2,7 @@
 pub mod Lists
 pub mod Namings
 pub mod Rows
+pub mod Placings
 pub mod Masks
 pub mod Passes
 pub mod Letters

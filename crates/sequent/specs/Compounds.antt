@@ -6,16 +6,18 @@ use lib.Dec.{ltb}
 use lib.ListN.{length, take}
 use Rattle.calculus.specs.declared.Side.{Side}
 use Rattle.calculus.specs.declared.Side.the-variants.{Left, Right}
-use Rattle.calculus.specs.Fold.{choose}
-use Rattle.calculus.specs.Limits.{LETTERS}
-use Rattle.calculus.specs.Syntax.{NOT, two, Formula, letter, neg, join, Compound, whole, Seq}
+use Rattle.calculus.specs.Fold.{Each, choose}
+use Rattle.calculus.specs.Limits.{LETTERS, ROOM}
+use Rattle.calculus.specs.Syntax.{NOT, two, Formula, letter, neg, join, Compound, whole, Seq, Sequent, c, size}
+use Rattle.calculus.specs.Table.{premise, premises}
+use Rattle.sequent.specs.declared.Placing.{Placing}
 use Rattle.sequent.specs.declared.Running.{Running}
 use Rattle.sequent.specs.declared.Reduction.{Reduction}
 use Rattle.sequent.specs.declared.Place.{Place}
 use Rattle.sequent.specs.declared.Place.the-variants.{At, Nowhere}
 use Rattle.sequent.specs.Names.{formulaIn, nodeOf, connectiveOf, firstOf, secondOf}
-use Rattle.sequent.specs.Rule.{ruleOf}
-use Rattle.sequent.specs.View.{nameAt}
+use Rattle.sequent.specs.Rule.{ruleOf, placed}
+use Rattle.sequent.specs.View.{view, countOf, nameAt, named, sequentOf, Good}
 
 -- ---- the first
 
@@ -57,3 +59,27 @@ reductionBy w t i =
 
 abbrev pub reductionAt : List ℕ → Side → ℕ → Seq ℕ → Reduction
 reductionAt T t i N = reductionBy (nodeOf T (nameAt t i N)) t i
+
+-- ---- premises
+
+-- the premises of a reduction
+abbrev pub premisesAt : List ℕ → List ℕ → Running → Reduction → List Sequent
+premisesAt T items s r = premises (r .side) (r .at) (compoundAt T (r .side) (r .at) (view s items)) (sequentOf T items s)
+
+-- the premise in which the parts go where p says
+abbrev pub premiseBy : List ℕ → List ℕ → Running → Reduction → Placing → Sequent
+premiseBy T items s r p = named (formulaIn T) (premise (r .side) (r .at) (view s items) (placed p (r .f) (r .g)))
+
+-- a reduction that can be made: a compound stands at its place, and no premise is too long
+pub record Reducible (T items : List ℕ) (s : Running) (r : Reduction) : Type 0 where
+  pub inside : r .at < countOf (r .side) s
+  pub compound : LETTERS ≤ nameAt (r .side) (r .at) (view s items)
+  pub exact : r ≡ reductionAt T (r .side) (r .at) (view s items)
+  pub fits : Each (λ P. size P ≤ ROOM) (premisesAt T items s r)
+
+-- a premise of it can be made, and has less connectives
+pub record Makes (T items : List ℕ) (s : Running) (r : Reduction) (p : Placing) : Type 0 where
+  pub good : Good T items s
+  pub can : Reducible T items s r
+  pub small : size (premiseBy T items s r p) ≤ ROOM
+  pub fewer : 1 + c (premiseBy T items s r p) ≤ c (sequentOf T items s)
