@@ -1,9 +1,11 @@
 // Checking a derivation of a question.
 use calculus::Side;
 use calculus::wide;
+use question::LETTERS;
 use question::Reading;
 use question::Refusal;
-use reduction::Reduction;
+use sequent::Placing;
+use sequent::Reduction;
 use sequent::Running;
 ghost use mathlib.Core.Path.{_≡_};
 ghost use mathlib.Core.Logic.{_↔_};
@@ -12,15 +14,16 @@ ghost use mathlib.Core.Option.{some};
 ghost use mathlib.Core.List.{[], _∷_};
 ghost use Prim.Native.Nat.{_≤_};
 ghost use lib.ListN.{length};
-ghost use Rattle.calculus.specs.Syntax.{Connective};
+ghost use Rattle.calculus.specs.Syntax.{Connective, size};
 ghost use Rattle.calculus.specs.Bytes.{CONNECTIVE, code, question};
 ghost use Rattle.calculus.specs.Truth.{bit, Valid};
 ghost use Rattle.calculus.specs.Reading.{accepted, reading};
 ghost use Rattle.calculus.specs.Derivation.{REDUCE, order, obey, Derivation};
 ghost use Rattle.calculus.specs.Reply.{checkReply};
 ghost use Rattle.sequent.specs.View.{Good, sequentOf};
+ghost use Rattle.sequent.specs.Compounds.{premisesAt, premiseBy, Reducible, Makes};
 ghost use Rattle.checker.specs.Answers.{faultNumber, faultPlace, checkOf};
-ghost use Rattle.checker.specs.Walks.{orderOf, Moves, Reducing, premisesAt, Roomy, Walks};
+ghost use Rattle.checker.specs.Walks.{orderOf, Moves, Roomy, Walks, Tallied};
 
 // What is wrong with a derivation, and the place of the command, or of the first byte left over.
 pub enum Fault {
@@ -75,17 +78,23 @@ enum Order {
     Unknown,
 }
 
-// What a command says of the sequent that waits: at fault, closed, or a formula to reduce, by its side and position.
+// What a command says of the sequent that waits: at fault, closed, or a reduction to make.
 enum Move {
     Stop(Fault),
     Closed,
-    Reduce(Side, u8),
+    Reduce(Reduction),
 }
 
 // Where the derivation of a sequent ends, or its first fault.
 enum Walked {
     To(usize),
     Stopped(Fault),
+}
+
+// The same of premises, and the stores made for them.
+struct Tally {
+    walked: Walked,
+    stores: usize,
 }
 
 // The command of a byte.
@@ -104,7 +113,7 @@ fn order_of(b: u8) -> Order
 fn in_mask(mask: u32, letter: u8) -> bool
     ensures { λ r. ⌜ r ≡ bit letter mask ⌝ }
 {
-    if question::LETTERS <= letter {
+    if LETTERS <= letter {
         return false;
     }
     (mask >> letter) % 2 == 1
@@ -120,28 +129,53 @@ fn closes(s: Running, letter: u8) -> bool
     false
 }
 
-// The formula at a place of a side, if it has the connective whose command is b.
-fn formula_named(q: &[u8], s: Running, side: Side, b: u8, place: u8, at: usize) -> Move
-    requires { ⌜ Good (now q) s ⌝ }
+// The reduction of the formula at a place of a side, if that has the connective whose command is b.
+fn formula_named(
+    nodes: &[u32; 48],
+    items: &[u8; 80],
+    s: Running,
+    side: Side,
+    b: u8,
+    place: u8,
+    at: usize,
+) -> Move
+    requires { ⌜ Good (now nodes) (now items) s × Roomy (sequentOf (now nodes) (now items) s) ⌝ }
     ensures { λ r. ⌜
         ((k : Connective) → code (CONNECTIVE k) ≡ b
-        → Moves (now (q .entry)) s place at (obey (some (REDUCE side k)) place (sequentOf (now (q .entry)) s)) r) ⌝ }
+        → Moves
+        (now (nodes .entry))
+        (now (items .entry))
+        s
+        at
+        (obey (some (REDUCE side k)) place (sequentOf (now (nodes .entry)) (now (items .entry)) s))
+        r) ⌝ }
 {
     let i = wide(place);
     if s.count(side) <= i {
         return Move::Stop(Fault::NoFormula(at));
     }
-    let p = s.items[sequent::slot(side, i)];
-    if q[wide(p)] != b {
+    let k = s.slot(side, i);
+    if items[k] < LETTERS {
         return Move::Stop(Fault::OtherConnective(at));
     }
-    Move::Reduce(side, p)
+    let r = s.reduction(nodes, items, side, i);
+    if r.connective != b {
+        return Move::Stop(Fault::OtherConnective(at));
+    }
+    Move::Reduce(r)
 }
 
 // A command b with its operand x.
-fn obey(q: &[u8], s: Running, b: u8, x: u8, at: usize) -> Move
-    requires { ⌜ Good (now q) s ⌝ }
-    ensures { λ r. ⌜ Moves (now (q .entry)) s x at (obey (order b) x (sequentOf (now (q .entry)) s)) r ⌝ }
+fn obey(nodes: &[u32; 48], items: &[u8; 80], s: Running, b: u8, x: u8, at: usize) -> Move
+    requires { ⌜ Good (now nodes) (now items) s × Roomy (sequentOf (now nodes) (now items) s) ⌝ }
+    ensures { λ r. ⌜
+        Moves
+        (now (nodes .entry))
+        (now (items .entry))
+        s
+        at
+        (obey (order b) x (sequentOf (now (nodes .entry)) (now (items .entry)) s))
+        r ⌝ }
 {
     let order = order_of(b);
     match order {
@@ -151,57 +185,105 @@ fn obey(q: &[u8], s: Running, b: u8, x: u8, at: usize) -> Move
             }
             Move::Stop(Fault::NotClosed(at))
         }
-        Order::Reduce(side, k) => formula_named(q, s, side, k, x, at),
+        Order::Reduce(side, k) => formula_named(nodes, items, s, side, k, x, at),
         Order::Unknown => Move::Stop(Fault::UnknownCommand(at)),
     }
 }
 
 // The derivation of one sequent, from byte `at` on.
-fn walk(q: &[u8], d: &[u8], s: Running, at: usize) -> Walked
-    requires { ⌜ Good (now q) s × Roomy (sequentOf (now q) s) × (at ≤ length (now d)) ⌝ }
-    ensures { λ r. ⌜ Walks (now (d .entry)) (sequentOf (now (q .entry)) s ∷ []) at r ⌝ }
+fn walk(nodes: &[u32; 48], items: &[u8; 80], d: &[u8], s: Running, at: usize) -> Walked
+    requires { ⌜
+        Good (now nodes) (now items) s × Roomy (sequentOf (now nodes) (now items) s) × (at ≤ length (now d)) ⌝ }
+    ensures { λ r. ⌜ Walks (now (d .entry)) (sequentOf (now (nodes .entry)) (now (items .entry)) s ∷ []) at r ⌝ }
 {
     if d.len() - at < 2 {
         return Walked::Stopped(Fault::CutShort(at));
     }
     let operand = at + 1;
-    let x = d[operand];
-    let next = obey(q, s, d[at], x, at);
+    let next = obey(nodes, items, s, d[at], d[operand], at);
     match next {
         Move::Stop(f) => Walked::Stopped(f),
         Move::Closed => Walked::To(at + 2),
-        Move::Reduce(side, p) => {
-            let r = reduction::reduction_of(q, p, side);
-            walk_premises(q, d, s, side, wide(x), r, at + 2)
+        Move::Reduce(r) => {
+            let t = walk_premises(nodes, items, d, s, r, at + 2);
+            let walked = t.walked;
+            walked
         }
+    }
+}
+
+// A premise of the reduction, made, and its derivation.
+fn walk_premise(
+    nodes: &[u32; 48],
+    items: &[u8; 80],
+    d: &[u8],
+    s: Running,
+    r: Reduction,
+    p: Placing,
+    at: usize,
+) -> Tally
+    requires { ⌜
+        Makes (now nodes) (now items) s r p
+        × Roomy (premiseBy (now nodes) (now items) s r p)
+        × (at ≤ length (now d)) ⌝ }
+    ensures { λ u. ⌜
+        Walks (now (d .entry)) (premiseBy (now (nodes .entry)) (now (items .entry)) s r p ∷ []) at (u .walked)
+        × (u .stores ≡ size (premiseBy (now (nodes .entry)) (now (items .entry)) s r p)) ⌝ }
+{
+    let side = r.side;
+    let mut next = [0u8; 80];
+    let made = s.premise(items, &mut next, side, r.at, p, r.f, r.g);
+    let t = made.running;
+    let walked = walk(nodes, &next, d, t, at);
+    Tally {
+        walked: walked,
+        stores: made.stores,
     }
 }
 
 // The derivation of the first premise, then that of the second.
 fn walk_premises(
-    q: &[u8],
+    nodes: &[u32; 48],
+    items: &[u8; 80],
     d: &[u8],
     s: Running,
-    side: Side,
-    i: usize,
     r: Reduction,
     at: usize,
-) -> Walked
-    requires { ⌜ Good (now q) s × Roomy (sequentOf (now q) s) × Reducing (now q) s side i r × (at ≤ length (now d)) ⌝ }
-    ensures { λ w. ⌜ Walks (now (d .entry)) (premisesAt (now (q .entry)) s side i) at w ⌝ }
+) -> Tally
+    requires { ⌜
+        Good (now nodes) (now items) s
+        × Roomy (sequentOf (now nodes) (now items) s)
+        × Reducible (now nodes) (now items) s r
+        × (at ≤ length (now d)) ⌝ }
+    ensures { λ u. ⌜ Tallied (now (d .entry)) (premisesAt (now (nodes .entry)) (now (items .entry)) s r) at u ⌝ }
 {
     let rule = r.rule;
-    let one = s.premise(q, side, i, rule.first, r.f, r.g);
-    let first = walk(q, d, one, at);
-    if rule.premises != 2 {
-        return first;
-    }
-    match first {
-        Walked::To(e) => {
-            let other = s.premise(q, side, i, rule.second, r.f, r.g);
-            walk(q, d, other, e)
+    let n = rule.premises;
+    let mut p = rule.first;
+    let mut end = at;
+    let mut stores = 0;
+    let mut j = 0;
+    while j < n {
+        let t = walk_premise(nodes, items, d, s, r, p, end);
+        stores += t.stores;
+        let walked = t.walked;
+        match walked {
+            Walked::To(e) => {
+                end = e;
+            }
+            Walked::Stopped(f) => {
+                return Tally {
+                    walked: Walked::Stopped(f),
+                    stores: stores,
+                };
+            }
         }
-        Walked::Stopped(f) => Walked::Stopped(f),
+        p = rule.second;
+        j += 1;
+    }
+    Tally {
+        walked: Walked::To(end),
+        stores: stores,
     }
 }
 
@@ -218,7 +300,10 @@ pub fn check(q: &[u8], derivation: &[u8]) -> Checking
     match reading {
         Reading::Refused(r) => Checking::Refused(r),
         Reading::Accepted => {
-            let walked = walk(q, derivation, reduction::root(q), 0);
+            let mut nodes = [0u32; 48];
+            let mut items = [0u8; 80];
+            let s = names::root(q, &mut nodes, &mut items);
+            let walked = walk(&nodes, &items, derivation, s, 0);
             match walked {
                 Walked::Stopped(f) => Checking::Faulty(f),
                 Walked::To(e) => {

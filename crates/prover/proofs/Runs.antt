@@ -1,108 +1,135 @@
--- The run: what a reduction comes to.
+-- The run of a rule's premises, one after the other.
 -- Assumes nothing.
-use mathlib.Core.Path.{_≡_, refl, sym, ap, _∙_, subst}
-use mathlib.Core.Bool.{false, _||_}
-use mathlib.Core.Option.{Option, some}
-use mathlib.Core.List.{List, [], _∷_}
-use Prim.Native.Nat.{ℕ, _+_, _≤_}
+use mathlib.Core.Path.{_≡_, refl, sym, ap, _∙_}
+use mathlib.Core.List.{List, [], _∷_, map}
+use Prim.Native.Nat.{ℕ, zero, suc, _+_, _*_, _^_, _≤_, _<_}
+use native.Mathlib.Nat.{zero-add, add-zero, add-assoc}
 use native.Mathlib.Omega.{arith}
-use lib.Dec.{ltb}
-use lib.ListN.{length, getElem?, length-take}
-use borrow.Author.Tests.{eq-eqb, ne-eqb, ltb-false}
-use Rattle.calculus.specs.declared.Side.{Side}
-use Rattle.calculus.specs.declared.Side.the-variants.{Left, Right}
-use Rattle.calculus.specs.Fold.{fold, ANY, Each}
-use Rattle.calculus.specs.Limits.{ROOM}
-use Rattle.calculus.specs.Syntax.{Formula, Sequent, on-side, c, size}
-use Rattle.calculus.specs.Table.{premise, premises}
-use Rattle.calculus.proofs.Folds.{or-false-both}
-use Rattle.calculus.proofs.Sequents.{Due, Smaller, smaller}
-use Rattle.question.specs.Positions.{formulaAt}
+use lib.ListN.{drop}
+use lib.Pow.{pow-mono}
+use Rattle.calculus.specs.declared.Kind.{Kind}
+use Rattle.calculus.specs.declared.Kind.the-variants.{Theorem, Refuted, Spent, Full}
+use Rattle.calculus.specs.declared.Outcome.{Outcome}
+use Rattle.calculus.specs.Fold.{fold, SUM}
+use Rattle.calculus.specs.Limits.{ROOM, CONNECTIVES}
+use Rattle.calculus.specs.Syntax.{Sequent, c, size}
+use Rattle.calculus.specs.Tree.{Event, close, reduce, closings, closingsBefore, tree, outcome, andThen, pass, act}
+use Rattle.calculus.proofs.Bounds.{closings-bound, W-bound}
+use Rattle.calculus.proofs.Budgets.{spend-closings, outcome-step}
+use Rattle.sequent.specs.declared.Placing.{Placing}
+use Rattle.sequent.specs.declared.Rule.{Rule}
+use Rattle.sequent.specs.Rule.{placings}
+use Rattle.sequent.proofs.Placings.{OneOrTwo, Next, next-starts, next-goes, next-ends}
 use Rattle.sequent.specs.declared.Running.{Running}
-use Rattle.sequent.specs.View.{lane, countOf, view, formulasOf, places, sequentOf, Good, Compounds}
-use Rattle.sequent.specs.Rule.{placed}
-use Rattle.sequent.proofs.Lanes.{lane-length}
-use Rattle.sequent.proofs.Changes.{sides}
-use Rattle.sequent.proofs.Premises.{element}
-use Rattle.reduction.specs.declared.Reduction.{Reduction}
-use Rattle.sequent.specs.Compounds.{compoundAt}
-use Rattle.reduction.specs.Reduction.{premiseBy, Reduces}
-use Rattle.reduction.proofs.Reductions.{premisesWith, premises-rule, premise-stands, placed-size}
-use Rattle.prover.specs.Inner.{ReadyAt}
+use Rattle.sequent.specs.View.{view, sequentOf}
+use Rattle.prover.specs.declared.Finding.{Finding}
+use Rattle.prover.specs.declared.Reduced.{Reduced}
+use Rattle.prover.specs.Inner.{innerOf, Stepped}
+use Rattle.prover.specs.Runs.{after, made, outcomeOf, Ran, Comes}
 
--- ---- one premise, or two
+-- what the step answers, the run does
+pub answered : (T items : List ℕ) (s : Running) (b : ℕ) (f : Finding) → Stepped T items s b f → act outcome b (sequentOf T items s) (innerOf T (view s items) f) ≡ outcome b (sequentOf T items s)
+answered T items s b f e = ap (act outcome b (sequentOf T items s)) (e .inner) ∙ sym (outcome-step b (sequentOf T items s))
 
-module _ (q : List ℕ) (s : Running) (good : Good q s) (items : length (s .items) ≡ ROOM) (left : ℕ) (t : Side) (i p : ℕ) (ready : ReadyAt q s left t i p)
-    (r : Reduction) (how : Reduces q p t r) where
-  pub premises-are : premises t i (compoundAt q p) (sequentOf q s) ≡ premisesWith t i (sequentOf q s) (compoundAt q p) (r .rule)
-  premises-are = premises-rule q p t r how i (sequentOf q s)
+-- ---- closings fit
 
-  held : length (view t s) ≡ countOf t s
-  held = omega (arith, sides t s, good .room, lane-length t (s .items), length-take (countOf t s) (lane t (s .items)))
+closings-before : (b : ℕ) (es : List Event) → closingsBefore b es ≤ closings es
+closings-before b [] = omega arith
+closings-before b (close k ∷ es) = omega (arith, closings-before b es)
+closings-before zero (reduce s i k ∷ es) = omega arith
+closings-before (suc b) (reduce s i k ∷ es) = omega (arith, closings-before b es)
 
-  pub at-place : Compounds q t i s
-  at-place =
+pub closings-small : (b : ℕ) (S : Sequent) → c S ≤ CONNECTIVES → outcome b S .closings ≤ 2 ^ CONNECTIVES
+closings-small b S h =
+    omega (arith, spend-closings b (tree S .events) (tree S .end), closings-before b (tree S .events), closings-bound S, W-bound S, pow-mono {j = CONNECTIVES} h)
+
+-- ---- the premises ahead
+
+-- an outcome after k closings
+abbrev more : ℕ → Outcome → Outcome
+more k v = record { kind = v .kind; unspent = v .unspent; closings = k + v .closings }
+
+stops : (k : Kind) → (k ≡ Theorem → ⊥) → (o : Outcome) (u : ℕ → Outcome) (Ps : List Sequent) → (andThen k o u ≡ o) × (after k Ps ≡ [])
+stops Theorem n o u Ps = absurd (n refl)
+stops (Refuted σ) n o u Ps = (refl, refl)
+stops Spent n o u Ps = (refl, refl)
+stops Full n o u Ps = (refl, refl)
+
+-- j premises are run: o reductions are left, k sequents were closed and n places stored, and p is the next placing
+pub record Ahead (F : Placing → Sequent) (r : Rule) (b j o k n : ℕ) (p : Placing) : Type 0 where
+  pub next : Next r j p
+  pub outcome : pass outcome b (map F (placings r)) ≡ more k (pass outcome o (map F (drop j (placings r))))
+  pub stores : n + fold SUM size (made o (map F (drop j (placings r)))) ≡ fold SUM size (made b (map F (placings r)))
+  pub few : k ≤ 2 ^ CONNECTIVES * j
+  pub small : n ≤ ROOM * j
+
+module _ (F : Placing → Sequent) (r : Rule) (count : OneOrTwo r) (b : ℕ) where
+  pub ahead-starts : Ahead F r b 0 b 0 0 (r .first)
+  ahead-starts =
+      let v = pass outcome b (map F (placings r)) in
       record {
-        inside = omega (arith, held, ready .found .inside);
-        compound = (compoundAt q p, ap (formulaAt q) (sym (ready .found .position)) ∙ ready .found .compound);
+        next = next-starts r count;
+        outcome = λ i. record { kind = v .kind; unspent = v .unspent; closings = sym (zero-add (v .closings)) i };
+        stores = zero-add _;
+        few = omega arith;
+        small = omega arith;
       }
 
-  -- The compound at position p stands at place i of its side.
-  stands : Due (sequentOf q s) t i (compoundAt q p)
-  stands =
-      ap (λ l. getElem? l i) (on-formulas t) ∙ element (formulaAt q) (view t s) i 0 (ready .found .inside)
-      ∙ ap {B = Option Formula} (λ (n : ℕ). some (formulaAt q n)) (sym (ready .found .position)) ∙ ap {B = Option Formula} some (ready .found .compound)
-    where
-      on-formulas : (u : Side) → on-side u (sequentOf q s) ≡ formulasOf q u s
-      on-formulas Left = refl
-      on-formulas Right = refl
+  module _ (j o k n : ℕ) (p : Placing) (a : Ahead F r b j o k n p) (h : j < r .premises) (u : Reduced) (e : Ran o (F p) u) where
+    abbrev rest : List Sequent
+    rest = map F (drop (j + 1) (placings r))
 
-  no-over : fold ANY (λ P. ltb ROOM (size P)) (premisesWith t i (sequentOf q s) (compoundAt q p) (r .rule)) ≡ false
-  no-over = ap (fold ANY (λ P. ltb ROOM (size P))) (sym premises-are) ∙ ready .fits
+    opened : pass outcome o (map F (drop j (placings r))) ≡ andThen (u .kind) (outcomeOf u) (λ l. pass outcome l rest)
+    opened = ap (λ (ps : List Placing). pass outcome o (map F ps)) (a .next .next h) ∙ ap (λ (v : Outcome). andThen (v .kind) v (λ l. pass outcome l rest)) (sym (e .outcome))
 
-  smaller-all : Each (Smaller (sequentOf q s)) (premisesWith t i (sequentOf q s) (compoundAt q p) (r .rule))
-  smaller-all = subst (Each (Smaller (sequentOf q s))) premises-are (smaller t i (compoundAt q p) (sequentOf q s) stands)
+    made-opened : made o (map F (drop j (placings r))) ≡ F p ∷ after (u .kind) (made (u .unspent) rest)
+    made-opened =
+        ap (λ (ps : List Placing). made o (map F ps)) (a .next .next h)
+        ∙ ap (λ (v : Outcome). F p ∷ after (v .kind) (made (v .unspent) rest)) (sym (e .outcome))
 
-  -- The first premise fits the room and is smaller, and a running sequent of its places stands for it.
-  pub first-fits : size (premise t i (places s) (placed (r .rule .first) (r .f) (r .g))) ≤ ROOM
-  first-fits =
-      rw (placed-size q s t i (r .rule .first) (r .f) (r .g) (compoundAt q p) (ready .found .inside))
-      (ltb-false ROOM _ (or-false-both _ _ no-over .0))
+    pub ahead-goes : u .kind ≡ Theorem → u .closings ≤ 2 ^ CONNECTIVES → size (F p) ≤ ROOM → Ahead F r b (j + 1) (u .unspent) (k + u .closings) (n + u .stores) (r .second)
+    ahead-goes t f g =
+        let v = pass outcome (u .unspent) rest in
+        let w : made o (map F (drop j (placings r))) ≡ F p ∷ made (u .unspent) rest = rw t at made-opened in
+        record {
+          next = next-goes r count j p (a .next) h;
+          outcome = a .outcome ∙ ap (more k) (rw t at opened) ∙ (λ i. record { kind = v .kind; unspent = v .unspent; closings = sym (add-assoc k (u .closings) (v .closings)) i });
+          stores = omega (arith, a .stores, ap (fold SUM size) w, e .stores);
+          few = omega (arith, a .few);
+          small = omega (arith, a .small, e .stores);
+        }
 
-  pub first-smaller : 1 + c (premiseBy t i (sequentOf q s) (compoundAt q p) (r .rule .first)) ≤ c (sequentOf q s)
-  first-smaller = smaller-all .0 .0
+    pub ahead-stops : (u .kind ≡ Theorem → ⊥) → Comes b (map F (placings r)) (record { kind = u .kind; unspent = u .unspent; closings = k + u .closings; stores = n + u .stores })
+    ahead-stops t =
+        let s = stops (u .kind) t (outcomeOf u) (λ l. pass outcome l rest) (made (u .unspent) rest) in
+        let w : made o (map F (drop j (placings r))) ≡ F p ∷ [] = made-opened ∙ ap (λ (Ps : List Sequent). F p ∷ Ps) (s .1) in
+        record {
+          outcome = sym (a .outcome ∙ ap (more k) (opened ∙ s .0));
+          stores = omega (arith, a .stores, ap (fold SUM size) w, e .stores);
+        }
 
-  pub first-stands : (n : Running) → places n ≡ premise t i (places s) (placed (r .rule .first) (r .f) (r .g)) → sequentOf q n ≡ premiseBy t i (sequentOf q s) (compoundAt q p) (r .rule .first)
-  first-stands n e = premise-stands q s n t i (r .rule .first) (r .f) (r .g) (compoundAt q p) (how .first) (how .second) e
+  pub ahead-ends : (j o k n : ℕ) (p : Placing) → Ahead F r b j o k n p → r .premises ≤ j
+      → Comes b (map F (placings r)) (record { kind = Theorem; unspent = o; closings = k; stores = n })
+  ahead-ends j o k n p a h =
+      let e = next-ends r count j h in
+      record {
+        outcome = sym (a .outcome ∙ ap (λ (ps : List Placing). more k (pass outcome o (map F ps))) e ∙ (λ i. record { kind = Theorem; unspent = o; closings = add-zero k i }));
+        stores = omega (arith, a .stores, ap (λ (ps : List Placing). fold SUM size (made o (map F ps))) e);
+      }
 
-  -- The second premise of a rule with two fits the room and is smaller, and a running sequent of its places stands for it.
-  module _ (two : r .rule .premises ≡ 2) where
-    both : premisesWith t i (sequentOf q s) (compoundAt q p) (r .rule)
-        ≡ premiseBy t i (sequentOf q s) (compoundAt q p) (r .rule .first) ∷ premiseBy t i (sequentOf q s) (compoundAt q p) (r .rule .second) ∷ []
-    both = rw (eq-eqb (r .rule .premises) 2 two)
+-- ---- the premises made are all of the rule's, unless the run ended in the first
 
-    pub second-fits : size (premise t i (places s) (placed (r .rule .second) (r .f) (r .g))) ≤ ROOM
-    second-fits =
-        rw (placed-size q s t i (r .rule .second) (r .f) (r .g) (compoundAt q p) (ready .found .inside))
-        (ltb-false ROOM (size second)
-        (or-false-both (ltb ROOM (size second)) false
-        (or-false-both (ltb ROOM (size first)) (ltb ROOM (size second) || false) (ap (fold ANY (λ P. ltb ROOM (size P))) (sym both) ∙ no-over) .1) .0))
-      where
-        first : Sequent
-        first = premiseBy t i (sequentOf q s) (compoundAt q p) (r .rule .first)
+after-none : (k : Kind) → after k [] ≡ []
+after-none Theorem = refl
+after-none (Refuted σ) = refl
+after-none Spent = refl
+after-none Full = refl
 
-        second : Sequent
-        second = premiseBy t i (sequentOf q s) (compoundAt q p) (r .rule .second)
+pub made-one : (b : ℕ) (P : Sequent) → made b (P ∷ []) ≡ P ∷ []
+made-one b P = ap (λ (Ps : List Sequent). P ∷ Ps) (after-none (outcome b P .kind))
 
-    pub second-smaller : 1 + c (premiseBy t i (sequentOf q s) (compoundAt q p) (r .rule .second)) ≤ c (sequentOf q s)
-    second-smaller = subst (Each (Smaller (sequentOf q s))) both smaller-all .1 .0 .0
+pub made-two : (b : ℕ) (P Q : Sequent) → outcome b P .kind ≡ Theorem → made b (P ∷ Q ∷ []) ≡ P ∷ Q ∷ []
+made-two b P Q h = ap (λ (k : Kind). P ∷ after k (made (outcome b P .unspent) (Q ∷ []))) h ∙ ap (λ (Ps : List Sequent). P ∷ Ps) (made-one (outcome b P .unspent) Q)
 
-  pub second-stands : (n : Running) → places n ≡ premise t i (places s) (placed (r .rule .second) (r .f) (r .g)) → sequentOf q n ≡ premiseBy t i (sequentOf q s) (compoundAt q p) (r .rule .second)
-  second-stands n e = premise-stands q s n t i (r .rule .second) (r .f) (r .g) (compoundAt q p) (how .first) (how .second) e
-
-  pub premises-one : (r .rule .premises ≡ 2 → ⊥) → premises t i (compoundAt q p) (sequentOf q s) ≡ premiseBy t i (sequentOf q s) (compoundAt q p) (r .rule .first) ∷ []
-  premises-one n = premises-are ∙ rw (ne-eqb (r .rule .premises) 2 n)
-
-  pub premises-two : r .rule .premises ≡ 2
-      → premises t i (compoundAt q p) (sequentOf q s) ≡ premiseBy t i (sequentOf q s) (compoundAt q p) (r .rule .first) ∷ premiseBy t i (sequentOf q s) (compoundAt q p) (r .rule .second) ∷ []
-  premises-two two = premises-are ∙ both two
+pub made-first : (b : ℕ) (P : Sequent) (Ps : List Sequent) → (outcome b P .kind ≡ Theorem → ⊥) → made b (P ∷ Ps) ≡ P ∷ []
+made-first b P Ps h = ap (λ (Qs : List Sequent). P ∷ Qs) (stops (outcome b P .kind) h (outcome b P) (λ l. outcome l P) (made (outcome b P .unspent) Ps) .1)

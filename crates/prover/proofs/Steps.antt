@@ -1,33 +1,30 @@
--- The inner step, by the tests that the code makes.
+-- The tests at a running sequent, in their order.
 -- Assumes nothing.
-use mathlib.Core.Path.{_≡_, refl, sym, ap, _∙_}
-use mathlib.Core.Bool.{Bool, true, false}
+use mathlib.Core.Path.{_≡_, refl, sym, ap, _∙_, subst}
+use mathlib.Core.Bool.{Bool, true, false, _||_}
 use mathlib.Core.Option.{none, some}
-use mathlib.Core.List.{List, map}
+use mathlib.Core.List.{List, [], _∷_}
 use Prim.Native.Nat.{ℕ, zero, suc, _+_, _≤_, _<_}
 use native.Mathlib.Omega.{arith}
-use lib.Dec.{ltb}
-use lib.ListN.{length, length-take, length-map}
-use borrow.Author.Tests.{lt-ltb, le-ltb, eq-eqb, ne-eqb}
+use lib.Dec.{eqb, ltb}
+use borrow.Author.Tests.{lt-ltb, le-ltb, eq-eqb, ne-eqb, ltb-false}
 use Rattle.calculus.specs.declared.Side.{Side}
 use Rattle.calculus.specs.declared.Side.the-variants.{Left, Right}
-use Rattle.calculus.specs.Fold.{fold, ANY, choose}
-use Rattle.calculus.specs.Limits.{ROOM}
-use Rattle.calculus.specs.Syntax.{on-side, size}
-use Rattle.calculus.specs.Table.{table, premises}
-use Rattle.calculus.specs.Tree.{letters, state, closing, first, full, reduced, due, tests, isClosed, isOpen, isFull, isSpent, isDue, afford, inner}
-use Rattle.question.specs.Positions.{formulaAt}
-use Rattle.sequent.specs.declared.Running.{Running}
+use Rattle.calculus.specs.Fold.{fold, ANY, Each, choose}
+use Rattle.calculus.specs.Limits.{ROOM, LETTERS}
+use Rattle.calculus.specs.Syntax.{Sequent, on-side, size}
+use Rattle.calculus.specs.Table.{premises}
+use Rattle.calculus.specs.Tree.{letters, state, closing, first, due, tests, full, reduced, isClosed, isOpen, isFull, isSpent, isDue, afford, inner}
+use Rattle.calculus.proofs.Folds.{or-false-both}
 use Rattle.sequent.specs.declared.Rule.{Rule}
-use Rattle.sequent.specs.View.{lane, countOf, view, formulasOf, sequentOf, Good}
-use Rattle.sequent.specs.Rule.{premiseOf, premisesOf, sided}
-use Rattle.sequent.proofs.Lanes.{lane-length}
-use Rattle.sequent.proofs.Changes.{sides}
-use Rattle.sequent.proofs.Premises.{ones}
+use Rattle.sequent.specs.declared.Running.{Running}
+use Rattle.sequent.specs.declared.Reduction.{Reduction}
 use Rattle.sequent.specs.declared.Place.the-variants.{At, Nowhere}
-use Rattle.sequent.specs.Compounds.{compoundAt, FoundAt, Found}
-use Rattle.reduction.specs.Reduction.{overfullOf}
-use Rattle.reduction.proofs.Reductions.{places-size, premises-with, overfull}
+use Rattle.sequent.specs.Rule.{premiseOf, overfullOf}
+use Rattle.sequent.specs.View.{view, countOf, nameAt, sequentOf, Good}
+use Rattle.sequent.specs.Compounds.{Found, compoundAt, reductionAt, premisesAt, Reducible}
+use Rattle.sequent.proofs.Restarts.{found-inside, found-name}
+use Rattle.sequent.proofs.Goods.{slot-name, full-is, found-left, found-right, found-nowhere}
 use Rattle.prover.specs.Inner.{ReadyAt}
 
 -- ---- FULL
@@ -41,46 +38,59 @@ over-second r n k m e h t f = rw (← e, le-ltb (ROOM + 1) (n + k) h, eq-eqb (r 
 pub over-not : (r : Rule) (n k : ℕ) → k ≡ size (premiseOf (r .first)) → n + k ≤ ROOM + 1 → (r .premises ≡ 2 → ⊥) → false ≡ overfullOf r n
 over-not r n k e h t = rw (← e, le-ltb (ROOM + 1) (n + k) h, ne-eqb (r .premises) 2 t)
 
-module _ (q : List ℕ) (s : Running) (good : Good q s) (items : length (s .items) ≡ ROOM) where
-  pub size-held : size (sequentOf q s) ≡ s .lefts + s .rights
-  size-held =
-      places-size q s ∙ two (ones (view Left s) ∙ held Left) (ones (view Right s) ∙ held Right)
-    where
-      held : (t : Side) → length (view t s) ≡ countOf t s
-      held t = omega (arith, sides t s, good .room, lane-length t (s .items), length-take (countOf t s) (lane t (s .items)))
+-- no premise is over the room
+each-within : (Ps : List Sequent) → fold ANY (λ P. ltb ROOM (size P)) Ps ≡ false → Each (λ P. size P ≤ ROOM) Ps
+each-within [] h = tt
+each-within (P ∷ Ps) h =
+    let w = or-false-both (ltb ROOM (size P)) (fold ANY (λ P. ltb ROOM (size P)) Ps) h in
+    (ltb-false ROOM (size P) (w .0), each-within Ps (w .1))
 
-      two : {a b c d : ℕ} → a ≡ b → c ≡ d → a + c ≡ b + d
-      two h k = omega arith
+-- ---- the reduction of the first compound
 
-  module _ (t : Side) (i p : ℕ) (found : FoundAt q s t i p) (r : Rule) (rows : premisesOf r ≡ map sided (table (compoundAt q p .connective) t)) where
-    inside : (u : Side) → i < length (view u s) → i < length (on-side u (sequentOf q s))
-    inside Left h = omega (arith, length-map (view Left s) (formulaAt q))
-    inside Right h = omega (arith, length-map (view Right s) (formulaAt q))
+module _ (T items : List ℕ) (s : Running) (good : Good T items s) (t : Side) (i : ℕ) (found : Found (view s items) (At t i)) where
+  pub first-inside : i < countOf t s
+  first-inside = found-inside s items (good .places) (good .room) t i found
 
-    pub full-test : fold ANY (λ P. ltb ROOM (size P)) (premises t i (compoundAt q p) (sequentOf q s)) ≡ overfullOf r (s .lefts + s .rights)
-    full-test =
-        ap (fold ANY (λ P. ltb ROOM (size P))) (premises-with t i (compoundAt q p) (sequentOf q s) r rows)
-        ∙ overfull t i (sequentOf q s) (compoundAt q p) r (inside t (found .inside)) ∙ ap (overfullOf r) size-held
+  pub first-name : LETTERS ≤ nameAt t i (view s items)
+  first-name = rw (slot-name T items s good t i first-inside) at (found-name s items (good .places) (good .room) t i found)
 
-    module _ (b : Bool) (e : b ≡ overfullOf r (s .lefts + s .rights)) (left : ℕ) where
-      due-is : due (sequentOf q s) t i (compoundAt q p) ≡ choose b full (reduced t i (compoundAt q p))
-      due-is = ap (λ (w : Bool). choose w full (reduced t i (compoundAt q p))) (full-test ∙ sym e)
+  module _ (r : Reduction) (e : r ≡ reductionAt T t i (view s items)) (b : Bool) (f : b ≡ overfullOf (r .rule) (s .lefts + s .rights)) (left : ℕ) where
+    full-test : fold ANY (λ P. ltb ROOM (size P)) (premises t i (compoundAt T t i (view s items)) (sequentOf T items s)) ≡ b
+    full-test = full-is T items s good t i first-inside first-name r e ∙ sym f
 
-      pub due-full : b ≡ true → isFull ≡ afford left (due (sequentOf q s) t i (compoundAt q p))
-      due-full h = rw (due-is, h)
+    due-is : due (sequentOf T items s) t i (compoundAt T t i (view s items)) ≡ choose b full (reduced t i (compoundAt T t i (view s items)))
+    due-is = ap (λ (w : Bool). choose w full (reduced t i (compoundAt T t i (view s items)))) full-test
 
-      pub due-spent : b ≡ false → left ≡ 0 → isSpent ≡ afford left (due (sequentOf q s) t i (compoundAt q p))
-      due-spent h z = rw (due-is, h, z)
+    pub due-full : b ≡ true → isFull ≡ afford left (due (sequentOf T items s) t i (compoundAt T t i (view s items)))
+    due-full h = rw (due-is, h)
 
-      pub due-reduce : b ≡ false → (left ≡ 0 → ⊥) → isDue t i (compoundAt q p) ≡ afford left (due (sequentOf q s) t i (compoundAt q p))
-      due-reduce h z = rw (due-is, h) (go left z)
+    pub due-spent : b ≡ false → left ≡ 0 → isSpent ≡ afford left (due (sequentOf T items s) t i (compoundAt T t i (view s items)))
+    due-spent h z = rw (due-is, h, z)
+
+    module _ (h : b ≡ false) (z : left ≡ 0 → ⊥) where
+      due-now : isDue t i (compoundAt T t i (view s items)) ≡ afford left (due (sequentOf T items s) t i (compoundAt T t i (view s items)))
+      due-now = rw (due-is, h) (go left z)
         where
-          go : (l : ℕ) → (l ≡ 0 → ⊥) → isDue t i (compoundAt q p) ≡ afford l (reduced t i (compoundAt q p))
+          go : (l : ℕ) → (l ≡ 0 → ⊥) → isDue t i (compoundAt T t i (view s items)) ≡ afford l (reduced t i (compoundAt T t i (view s items)))
           go zero z = absurd (z refl)
           go (suc l) z = refl
 
-      pub due-ready : b ≡ false → (left ≡ 0 → ⊥) → ReadyAt q s left t i p
-      due-ready h z = record { found = found; fits = full-test ∙ sym e ∙ h; affords = go left z }
+      pub due-reduce : isDue (r .side) (r .at) (compoundAt T (r .side) (r .at) (view s items)) ≡ afford left (due (sequentOf T items s) t i (compoundAt T t i (view s items)))
+      due-reduce = ap (λ (u : Reduction). isDue (u .side) (u .at) (compoundAt T (u .side) (u .at) (view s items))) e ∙ due-now
+
+      pub due-ready : ReadyAt T items s left r
+      due-ready =
+          subst (ReadyAt T items s left) (sym e)
+          (record {
+            found = found;
+            can = record {
+              inside = first-inside;
+              compound = first-name;
+              exact = refl;
+              fits = each-within (premises t i (compoundAt T t i (view s items)) (sequentOf T items s)) (full-test ∙ h);
+            };
+            affords = go left z;
+          })
         where
           go : (l : ℕ) → (l ≡ 0 → ⊥) → 0 < l
           go zero z = absurd (z refl)
@@ -88,18 +98,14 @@ module _ (q : List ℕ) (s : Running) (good : Good q s) (items : length (s .item
 
 -- ---- the tests in their order
 
-pub found-of : (q : List ℕ) (s : Running) (t : Side) (i p : ℕ) → Found q s (At t i p) → FoundAt q s t i p
-found-of q s Left i p h = h
-found-of q s Right i p h = h .1
+module _ (T items : List ℕ) (s : Running) (good : Good T items s) (left : ℕ) where
+  pub inner-closed : (k : ℕ) → closing (sequentOf T items s) ≡ some k → isClosed k ≡ inner left (sequentOf T items s)
+  inner-closed k e = ap (λ o. afford left (tests (sequentOf T items s) o (first (sequentOf T items s .on-left)) (first (sequentOf T items s .on-right)))) (sym e)
 
-module _ (q : List ℕ) (s : Running) (left : ℕ) where
-  pub inner-closed : (k : ℕ) → closing (sequentOf q s) ≡ some k → isClosed k ≡ inner left (sequentOf q s)
-  inner-closed k e = ap (λ o. afford left (tests (sequentOf q s) o (first (formulasOf q Left s)) (first (formulasOf q Right s)))) (sym e)
+  pub inner-due : closing (sequentOf T items s) ≡ none → (t : Side) (i : ℕ) → Found (view s items) (At t i)
+      → afford left (due (sequentOf T items s) t i (compoundAt T t i (view s items))) ≡ inner left (sequentOf T items s)
+  inner-due e Left i h = rw (e, found-left T items s good i h)
+  inner-due e Right i h = let w = found-right T items s good i h in rw (e, w .0, w .1)
 
-  pub inner-due : closing (sequentOf q s) ≡ none → (t : Side) (i p : ℕ) → Found q s (At t i p)
-      → afford left (due (sequentOf q s) t i (compoundAt q p)) ≡ inner left (sequentOf q s)
-  inner-due e Left i p h = rw (e, h .first)
-  inner-due e Right i p h = rw (e, h .0, h .1 .first)
-
-  pub inner-open : closing (sequentOf q s) ≡ none → Found q s Nowhere → (m : ℕ) → m ≡ state (letters (formulasOf q Left s)) → isOpen m ≡ inner left (sequentOf q s)
-  inner-open e h m d = rw (e, h .0, h .1) (ap isOpen d)
+  pub inner-open : closing (sequentOf T items s) ≡ none → Found (view s items) Nowhere → (m : ℕ) → m ≡ state (letters (sequentOf T items s .on-left)) → isOpen m ≡ inner left (sequentOf T items s)
+  inner-open e h m d = let w = found-nowhere T items s good h in rw (e, w .0, w .1) (ap isOpen d)

@@ -13,20 +13,20 @@ use sequent::Rule;
 use sequent::Running;
 ghost use mathlib.Core.Path.{_≡_};
 ghost use Prim.Native.Nat.{_+_, _≤_, _<_};
-ghost use Rattle.calculus.specs.Fold.{fold, SUM};
 ghost use Rattle.calculus.specs.Limits;
 ghost use Rattle.calculus.specs.Limits.{LETTERS, CONNECTIVES};
-ghost use Rattle.calculus.specs.Syntax.{c, size};
+ghost use Rattle.calculus.specs.Syntax.{c};
 ghost use Rattle.calculus.specs.Bytes.{question};
 ghost use Rattle.calculus.specs.Reading.{reading, accepted};
 ghost use Rattle.calculus.specs.Reply.{decideReply};
-ghost use Rattle.calculus.specs.Tree.{verdict, outcome, afford, due, pass};
+ghost use Rattle.calculus.specs.Tree.{verdict, outcome, afford, due};
+ghost use Rattle.sequent.specs.declared.Place.the-variants.{At};
 ghost use Rattle.sequent.specs.Rule.{overfullOf};
-ghost use Rattle.sequent.specs.View.{view, countOf, nameAt, sequentOf, Good};
-ghost use Rattle.sequent.specs.Compounds.{Clear, compoundAt, Reducible};
+ghost use Rattle.sequent.specs.View.{view, sequentOf, Good};
+ghost use Rattle.sequent.specs.Compounds.{Clear, Found, compoundAt, premisesAt, premiseBy, Makes};
 ghost use Rattle.prover.specs.Answers.{decisionOf, Promised};
-ghost use Rattle.prover.specs.Inner.{innerOf, Ready, Stepped, premisesOf, premiseAt, Runs, Made};
-ghost use Rattle.prover.specs.Runs.{made, outcomeOf, Running-on, Due};
+ghost use Rattle.prover.specs.Inner.{innerOf, Ready, Stepped, First};
+ghost use Rattle.prover.specs.Runs.{ended, Ran, Comes};
 
 // What is due at a sequent, with the reductions left.
 pub enum Finding {
@@ -50,6 +50,8 @@ pub struct Reduced {
 
 // Whether a premise of the rule would hold more formulas than there is room for, n being held now.
 fn overfull(rule: Rule, n: usize) -> bool
+    requires { ⌜ n ≤ Limits.ROOM ⌝ }
+    ensures { λ r. ⌜ r ≡ overfullOf rule n ⌝ }
 {
     if ROOM + 1 < n + sequent::placed(rule.first) {
         return true;
@@ -62,6 +64,16 @@ fn overfull(rule: Rule, n: usize) -> bool
 
 // The tests at a sequent whose first compound is at a place of a side: FULL, SPENT, then the reduction.
 fn due_at(nodes: &[u32; 48], items: &[u8; 80], s: Running, side: Side, at: usize, left: u64) -> Finding
+    requires { ⌜ Good (now nodes) (now items) s × Found (view s (now items)) (At side at) ⌝ }
+    ensures { λ r. ⌜
+        (innerOf (now (nodes .entry)) (view s (now (items .entry))) r
+        ≡ afford left
+        (due
+        (sequentOf (now (nodes .entry)) (now (items .entry)) s)
+        side
+        at
+        (compoundAt (now (nodes .entry)) side at (view s (now (items .entry))))))
+        × Ready (now (nodes .entry)) (now (items .entry)) s left r ⌝ }
 {
     let r = s.reduction(nodes, items, side, at);
     let rule = r.rule;
@@ -77,6 +89,8 @@ fn due_at(nodes: &[u32; 48], items: &[u8; 80], s: Running, side: Side, at: usize
 // The inner step: one sequent through the tests in their order, with the reductions left. Its answer says what is due and
 // does nothing, so that no run made from it goes on after SPENT. Letters alone stand before place `from`.
 pub fn step(nodes: &[u32; 48], items: &[u8; 80], s: Running, from: usize, left: u64) -> Finding
+    requires { ⌜ Good (now nodes) (now items) s × Clear from (now items) s ⌝ }
+    ensures { λ r. ⌜ Stepped (now (nodes .entry)) (now (items .entry)) s left r ⌝ }
 {
     let shared = s.leftmask & s.rightmask;
     if shared != 0 {
@@ -90,6 +104,7 @@ pub fn step(nodes: &[u32; 48], items: &[u8; 80], s: Running, from: usize, left: 
 }
 
 fn ended(kind: Kind, left: u64, closings: u64) -> Outcome
+    ensures { λ r. ⌜ r ≡ ended kind left closings ⌝ }
 {
     Outcome {
         kind: kind,
@@ -100,6 +115,11 @@ fn ended(kind: Kind, left: u64, closings: u64) -> Outcome
 
 // The run: reductions left go in and come out.
 fn run(nodes: &[u32; 48], items: &[u8; 80], s: Running, from: usize, left: u64) -> Outcome
+    requires { ⌜
+        Good (now nodes) (now items) s
+        × Clear from (now items) s
+        × (c (sequentOf (now nodes) (now items) s) ≤ CONNECTIVES) ⌝ }
+    ensures { λ r. ⌜ r ≡ outcome left (sequentOf (now (nodes .entry)) (now (items .entry)) s) ⌝ }
 {
     let due = step(nodes, items, s, from, left);
     match due {
@@ -117,6 +137,11 @@ fn run(nodes: &[u32; 48], items: &[u8; 80], s: Running, from: usize, left: u64) 
 
 // A premise of the reduction, made and run.
 fn run_premise(nodes: &[u32; 48], items: &[u8; 80], s: Running, r: Reduction, p: Placing, left: u64) -> Reduced
+    requires { ⌜
+        Makes (now nodes) (now items) s r p
+        × Found (view s (now items)) (At (r .side) (r .at))
+        × (c (sequentOf (now nodes) (now items) s) ≤ CONNECTIVES) ⌝ }
+    ensures { λ u. ⌜ Ran left (premiseBy (now (nodes .entry)) (now (items .entry)) s r p) u ⌝ }
 {
     let side = r.side;
     let mut next = [0u8; 80];
@@ -134,6 +159,8 @@ fn run_premise(nodes: &[u32; 48], items: &[u8; 80], s: Running, r: Reduction, p:
 
 // The reduction that is due: the first premise is finished, then the second is taken up.
 fn reduce(nodes: &[u32; 48], items: &[u8; 80], s: Running, r: Reduction, left: u64) -> Reduced
+    requires { ⌜ First (now nodes) (now items) s r × (c (sequentOf (now nodes) (now items) s) ≤ CONNECTIVES) ⌝ }
+    ensures { λ u. ⌜ Comes left (premisesAt (now (nodes .entry)) (now (items .entry)) s r) u ⌝ }
 {
     let rule = r.rule;
     let n = rule.premises;
@@ -172,6 +199,8 @@ fn reduce(nodes: &[u32; 48], items: &[u8; 80], s: Running, r: Reduction, left: u
 
 // The verdict of an accepted question.
 pub fn verdict_of(q: &[u8], budget: u64) -> Verdict
+    requires { ⌜ reading (now q) ≡ accepted ⌝ }
+    ensures { λ r. ⌜ r ≡ verdict budget (question (now (q .entry))) ⌝ }
 {
     let mut nodes = [0u32; 48];
     let mut items = [0u8; 80];

@@ -239,12 +239,10 @@ module _ (T items : List ℕ) (s : Running) (good : Good T items s) where
 -- ---- a premise made
 
 module _ (T items : List ℕ) (s : Running) (r : Reduction) (p : Placing) (m : Makes T items s r p) where
-  -- what `premise` asks
-  pub premise-asks : (new : List ℕ) → length new ≡ ROOM
-      → (r .at < countOf (r .side) s) × (s .lefts + s .rights ≤ ROOM) × (length items ≡ ROOM) × (length new ≡ ROOM)
-      × (size (premise (r .side) (r .at) (view s items) (placed p (r .f) (r .g))) ≤ ROOM)
-  premise-asks new e =
-      (m .can .inside, m .good .room, m .good .places, e, omega (arith, m .small, size-named (formulaIn T) (premise (r .side) (r .at) (view s items) (placed p (r .f) (r .g)))))
+  -- what `premise` asks beside the new list's length
+  pub premise-asks : (r .at < countOf (r .side) s) × (s .lefts + s .rights ≤ ROOM) × (length items ≡ ROOM) × (size (premise (r .side) (r .at) (view s items) (placed p (r .f) (r .g))) ≤ ROOM)
+  premise-asks =
+      (m .can .inside, m .good .room, m .good .places, omega (arith, m .small, size-named (formulaIn T) (premise (r .side) (r .at) (view s items) (placed p (r .f) (r .g)))))
 
   module _ (before new : List ℕ) (b : Built) (builds : Builds (r .side) (r .at) p (r .f) (r .g) s items before new b) where
     pub made-is : sequentOf T new (b .running) ≡ premiseBy T items s r p
