@@ -17,6 +17,7 @@ use Rattle.calculus.specs.declared.Side.the-variants.{Left, Right}
 use Rattle.calculus.specs.Fold.{fold, ANY, SUM, Each, choose}
 use Rattle.calculus.specs.Limits.{ROOM, LETTERS, CONNECTIVES}
 use Rattle.calculus.specs.Syntax.{Connective, NOT, two, Formula, letter, neg, join, Compound, compound, whole, Seq, Sequent, on-side, c, size}
+use Rattle.calculus.specs.Bytes.{CONNECTIVE, code}
 use Rattle.calculus.specs.Table.{premise, premises, table, on}
 use Rattle.calculus.specs.Tree.{letters, state, missing, here, later, first}
 use Rattle.calculus.proofs.Folds.{each-append}
@@ -225,6 +226,17 @@ module _ (T items : List ℕ) (s : Running) (good : Good T items s) where
         go : (Ps : List Sequent) → Each (Smaller (sequentOf T items s)) Ps → Each (λ P. 1 + c P ≤ c (sequentOf T items s)) Ps
         go [] h = tt
         go (P ∷ Ps) h = (h .0 .0, go Ps (h .1))
+
+    -- its command, and its place in a byte
+    pub command-made : r .connective ≡ code (CONNECTIVE (compoundAt T (r .side) (r .at) (view s items) .connective))
+    command-made = ap (λ (u : Reduction). u .connective) (can .exact) ∙ compounded (r .side) (r .at) (can .inside) (can .compound) .command
+
+    pub place-small : r .at < ROOM
+    place-small = go (r .side) (can .inside)
+      where
+        go : (t : Side) → r .at < countOf t s → r .at < ROOM
+        go Left h = omega (arith, good .room)
+        go Right h = omega (arith, good .room)
 
     -- the next premise of a loop over the rule's
     pub makes-next : (j : ℕ) (p : Placing) → Next (r .rule) j p → j < r .rule .premises → Makes T items s r p

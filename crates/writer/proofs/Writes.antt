@@ -1,17 +1,18 @@
 -- The bytes of a derivation, stored one after the other.
 -- Assumes nothing.
 use mathlib.Core.Path.{_≡_, refl, sym, ap, _∙_, subst}
-use mathlib.Core.List.{List, [], _∷_, _++_, append-nil}
-use Prim.Native.Nat.{ℕ, _+_, _^_, _≤_, _<_}
+use mathlib.Core.List.{List, [], _∷_, _++_, map}
+use Prim.Native.Nat.{ℕ, _+_, _*_, _^_, _≤_, _<_}
 use native.Mathlib.Numerals.{add-one}
 use native.Mathlib.Omega.{arith}
-use lib.ListN.{length, set, length-append, length-take}
-use lib.Seq.{sets}
+use lib.ListN.{length, drop, set, length-append}
+use lib.Seq.{sets, length-sets}
 use Rattle.calculus.specs.declared.Side.{Side}
 use Rattle.calculus.specs.declared.Kind.{Kind}
 use Rattle.calculus.specs.declared.Kind.the-variants.{Theorem, Refuted, Spent, Full}
+use Rattle.calculus.specs.Fold.{fold, SUM, Each}
 use Rattle.calculus.specs.Limits.{LETTERS, ROOM}
-use Rattle.calculus.specs.Syntax.{Compound, Sequent}
+use Rattle.calculus.specs.Syntax.{Compound, Sequent, size}
 use Rattle.calculus.specs.Table.{premises}
 use Rattle.calculus.specs.Tree.{letters, state, Step, closed, opened, full, reduced, step, Event, reduce, Tree, follow, chain, under, grow, tree, Inner, isClosed, isOpen, isFull, isSpent, isDue, afford, inner}
 use Rattle.calculus.specs.Derivation.{CLOSE, REDUCE, orderCode, writtenAll, derivation}
@@ -19,14 +20,18 @@ use Rattle.calculus.proofs.Buffers.{sets-append}
 use Rattle.calculus.proofs.Derivations.{writtenAll-append}
 use Rattle.calculus.proofs.Trees.{tree-grows, right-step, bit-state}
 use Rattle.prover.proofs.Closings.{bit-below}
-use Rattle.sequent.specs.declared.Running.{Running}
-use Rattle.sequent.specs.View.{lane, countOf}
-use Rattle.sequent.proofs.Lanes.{lane-length}
-use Rattle.sequent.specs.Compounds.{FoundAt}
+use Rattle.sequent.specs.declared.Placing.{Placing}
+use Rattle.sequent.specs.declared.Rule.{Rule}
+use Rattle.sequent.specs.Rule.{placings}
+use Rattle.sequent.proofs.Lists.{each-unmap}
+use Rattle.sequent.proofs.Placings.{OneOrTwo, Next, next-starts, next-goes, next-ends, next-each}
 use Rattle.prover.specs.declared.Finding.{Finding}
 use Rattle.prover.specs.declared.Finding.the-variants.{Closed, Open, Full as FullFound, Spent as SpentFound, Reduce}
 use Rattle.prover.specs.Inner.{innerOf}
 use Rattle.prover.proofs.Finding.{the-type}
+use Rattle.calculus.specs.Syntax.{Seq}
+use Rattle.writer.specs.declared.Emitted.{Emitted}
+use Rattle.writer.specs.Emits.{Provable, derivations, Emits}
 use denote.Enum.Declared.{tagOf}
 use types.Run.{OneOf, miss}
 
@@ -75,6 +80,17 @@ theorem-goes S h = go (step S) (ap (λ (t : Tree). t .end) (sym (tree-grows S)) 
     go full e = let z : _≡_ {A = ℕ} 0 1 = cc in omega arith
     go (reduced s i x) e = tt
 
+-- A theorem's step is closed or reduced.
+pub no-other : {Q : Type 0} (T : List ℕ) (N : Seq ℕ) (S : Sequent) (r : Finding) → innerOf T N r ≡ inner 1 S → tree S .end ≡ Theorem → OneOf (1 ∷ 2 ∷ 3 ∷ []) (tagOf the-type r) → Q
+no-other {Q} T N S r e h k = go r (subst Goes (sym e) (theorem-goes S h)) k
+  where
+    go : (r : Finding) → Goes (innerOf T N r) → OneOf (1 ∷ 2 ∷ 3 ∷ []) (tagOf the-type r) → Q
+    go (Closed j) g k = absurd (miss (1 ∷ 2 ∷ 3 ∷ []) 0 tt k)
+    go (Open σ) g k = absurd g
+    go FullFound g k = absurd g
+    go SpentFound g k = absurd g
+    go (Reduce u) g k = absurd (miss (1 ∷ 2 ∷ 3 ∷ []) 4 tt k)
+
 reduced-tree : (S : Sequent) (s : Side) (i : ℕ) (x : Compound) → isDue s i x ≡ inner 1 S → tree S ≡ under (reduce s i (x .connective)) (chain tree (premises s i x S))
 reduced-tree S s i x e = tree-grows S ∙ ap (grow tree S) (due-step (step S) s i x (sym e))
 
@@ -84,80 +100,73 @@ follow-theorem es (Refuted σ) u h = let z : _≡_ {A = ℕ} 0 1 = cc in absurd 
 follow-theorem es Spent u h = let z : _≡_ {A = ℕ} 0 1 = cc in absurd (omega arith)
 follow-theorem es Full u h = let z : _≡_ {A = ℕ} 0 1 = cc in absurd (omega arith)
 
--- A theorem that is reduced has theorems for premises, one or two, and its derivation is the command and theirs.
+-- where the premises come to a theorem, each is one, and what is written is their derivations
+chain-theorem : (Ps : List Sequent) → chain tree Ps .end ≡ Theorem → Each Provable Ps × (writtenAll (chain tree Ps .events) ≡ derivations Ps)
+chain-theorem [] h = (tt, refl)
+chain-theorem (P ∷ Ps) h =
+    let f = follow-theorem (tree P .events) (tree P .end) (chain tree Ps) h in
+    let r = chain-theorem Ps (f .1) in
+    ((f .0, r .0), ap writtenAll (f .2) ∙ writtenAll-append (tree P .events) (chain tree Ps .events) ∙ ap (λ (bs : List ℕ). derivation P ++ bs) (r .1))
+
+-- A theorem that is reduced has theorems for premises, and its derivation is the command and theirs.
 module _ (S : Sequent) (s : Side) (i : ℕ) (x : Compound) (due : isDue s i x ≡ inner 1 S) (h : tree S .end ≡ Theorem) where
-  ends : chain tree (premises s i x S) .end ≡ Theorem
-  ends = ap (λ (t : Tree). t .end) (sym (reduced-tree S s i x due)) ∙ h
+  pub premises-provable : Each Provable (premises s i x S)
+  premises-provable = chain-theorem (premises s i x S) (ap (λ (t : Tree). t .end) (sym (reduced-tree S s i x due)) ∙ h) .0
 
-  bytes : derivation S ≡ orderCode (REDUCE s (x .connective)) ∷ i ∷ writtenAll (chain tree (premises s i x S) .events)
-  bytes = ap (λ (t : Tree). writtenAll (t .events)) (reduced-tree S s i x due)
+  pub derivation-due : derivation S ≡ orderCode (REDUCE s (x .connective)) ∷ i ∷ derivations (premises s i x S)
+  derivation-due =
+      ap (λ (t : Tree). writtenAll (t .events)) (reduced-tree S s i x due)
+      ∙ ap (λ (bs : List ℕ). orderCode (REDUCE s (x .connective)) ∷ i ∷ bs) (chain-theorem (premises s i x S) (ap (λ (t : Tree). t .end) (sym (reduced-tree S s i x due)) ∙ h) .1)
 
-  -- The first premise is a theorem, whatever follows it, and its derivation is shorter by two bytes or more.
-  pub derivation-first : (P : Sequent) (Ps : List Sequent) → premises s i x S ≡ P ∷ Ps → (tree P .end ≡ Theorem) × (2 + length (derivation P) ≤ length (derivation S))
-  derivation-first P Ps e =
-      let f = follow-theorem (tree P .events) (tree P .end) (chain tree Ps) (rw e at ends) in
-      let g : length (derivation S) ≡ 2 + length (writtenAll (follow (tree P .events) (tree P .end) (chain tree Ps) .events))
-      = ap length (bytes ∙ ap (λ Qs. orderCode (REDUCE s (x .connective)) ∷ i ∷ writtenAll (chain tree Qs .events)) e) ∙ (omega arith) in
-      let split = ap length (writtenAll-append (tree P .events) (chain tree Ps .events)) in
-      let sum = length-append (writtenAll (tree P .events)) (writtenAll (chain tree Ps .events)) in
-      (f .0, omega (arith, g, ap (λ es. length (writtenAll es)) (f .2), split, sum))
+-- a command, and what is stored behind it
+pub sets-behind : (l : List ℕ) (at a b : ℕ) (ds : List ℕ) → sets (sets l at (a ∷ b ∷ [])) (at + 2) ds ≡ sets l at (a ∷ b ∷ ds)
+sets-behind l at a b ds = sets-append l at (a ∷ b ∷ []) ds
 
-  pub due-length : 2 ≤ length (derivation S)
-  due-length = omega (arith, ap length bytes)
+-- ---- the premises of a rule, one after the other
 
-  pub derivation-one : (P : Sequent) → premises s i x S ≡ P ∷ [] → (tree P .end ≡ Theorem) × (derivation S ≡ orderCode (REDUCE s (x .connective)) ∷ i ∷ derivation P)
-  derivation-one P e =
-      let f = follow-theorem (tree P .events) (tree P .end) (chain tree []) (rw e at ends) in (
-        f .0,
-        bytes ∙ ap (λ Ps. orderCode (REDUCE s (x .connective)) ∷ i ∷ writtenAll (chain tree Ps .events)) e
-            ∙ ap (λ es. orderCode (REDUCE s (x .connective)) ∷ i ∷ writtenAll es) (f .2 ∙ append-nil (tree P .events)),
-      )
+-- j premises are written, up to `end`, with n stores, and p is the next placing
+pub record Ahead (F : Placing → Sequent) (r : Rule) (old : List ℕ) (at j end n : ℕ) (new : List ℕ) (p : Placing) : Type 0 where
+  pub next : Next r j p
+  pub place : end + length (derivations (map F (drop j (placings r)))) ≡ at + length (derivations (map F (placings r)))
+  pub bytes : sets new end (derivations (map F (drop j (placings r)))) ≡ sets old at (derivations (map F (placings r)))
+  pub long : length new ≡ length old
+  pub stores : n + fold SUM size (map F (drop j (placings r))) ≡ fold SUM size (map F (placings r))
+  pub small : n ≤ ROOM * j
 
-  pub derivation-two : (P Q : Sequent) → premises s i x S ≡ P ∷ Q ∷ []
-      → (tree P .end ≡ Theorem) × (tree Q .end ≡ Theorem) × (derivation S ≡ orderCode (REDUCE s (x .connective)) ∷ i ∷ (derivation P ++ derivation Q))
-  derivation-two P Q e =
-      let f = follow-theorem (tree P .events) (tree P .end) (chain tree (Q ∷ [])) (rw e at ends) in
-      let g = follow-theorem (tree Q .events) (tree Q .end) (chain tree []) (f .1) in (
-        f .0,
-        g .0,
-        bytes ∙ ap (λ Ps. orderCode (REDUCE s (x .connective)) ∷ i ∷ writtenAll (chain tree Ps .events)) e
-            ∙ ap (λ es. orderCode (REDUCE s (x .connective)) ∷ i ∷ writtenAll es) (f .2 ∙ ap (λ es. tree P .events ++ es) (g .2 ∙ append-nil (tree Q .events)))
-            ∙ ap (λ bs. orderCode (REDUCE s (x .connective)) ∷ i ∷ bs) (writtenAll-append (tree P .events) (tree Q .events)),
-      )
+module _ (F : Placing → Sequent) (r : Rule) (count : OneOrTwo r) (old : List ℕ) (at : ℕ) where
+  pub ahead-starts : Ahead F r old at 0 at 0 old (r .first)
+  ahead-starts = record { next = next-starts r count; place = refl; bytes = refl; long = refl; stores = omega arith; small = omega arith }
 
--- ---- a command, and the premises' derivations after it
+  module _ (j end n : ℕ) (new : List ℕ) (p : Placing) (a : Ahead F r old at j end n new p) where
+    pub next-provable : Each Provable (map F (placings r)) → j < r .premises → Provable (F p)
+    next-provable h k = next-each r count (λ p. Provable (F p)) (each-unmap F Provable (placings r) h) j p (a .next) k
 
-pub sets-one : (l : List ℕ) (at a b : ℕ) (ds all : List ℕ) → all ≡ a ∷ b ∷ ds → sets (sets l at (a ∷ b ∷ [])) (at + 2) ds ≡ sets l at all
-sets-one l at a b ds all e = sets-append l at (a ∷ b ∷ []) ds ∙ ap (sets l at) (sym e)
+    module _ (h : j < r .premises) where
+      ahead-bytes : derivations (map F (drop j (placings r))) ≡ derivation (F p) ++ derivations (map F (drop (j + 1) (placings r)))
+      ahead-bytes = ap (λ (ps : List Placing). derivations (map F ps)) (a .next .next h)
 
-sets-both : (l : List ℕ) (at a b : ℕ) (ds es all : List ℕ) → all ≡ a ∷ b ∷ (ds ++ es) → sets (sets (sets l at (a ∷ b ∷ [])) (at + 2) ds) (at + 2 + length ds) es ≡ sets l at all
-sets-both l at a b ds es all e = sets-append (sets l at (a ∷ b ∷ [])) (at + 2) ds es ∙ sets-one l at a b (ds ++ es) all e
+      pub next-room : at + length (derivations (map F (placings r))) ≤ length old → end + length (derivation (F p)) ≤ length new
+      next-room k = omega (arith, a .place, a .long, ap length ahead-bytes, length-append (derivation (F p)) (derivations (map F (drop (j + 1) (placings r)))))
 
--- What each of the writes left comes to the whole derivation stored at once.
-pub sets-after : (l l1 last : List ℕ) (at r1 a b : ℕ) (ds ds1 all : List ℕ) → last ≡ sets l1 r1 ds → r1 ≡ at + 2 → l1 ≡ sets l at (a ∷ b ∷ []) → ds ≡ ds1
-    → all ≡ a ∷ b ∷ ds1 → last ≡ sets l at all
-sets-after l l1 last at r1 a b ds ds1 all w r o d e =
-    w ∙ ap (λ (k : ℕ). sets l1 k ds) r ∙ ap (λ (m : List ℕ). sets m (at + 2) ds) o ∙ ap (λ (k : List ℕ). sets (sets l at (a ∷ b ∷ [])) (at + 2) k) d ∙ sets-one l at a b ds1 all e
+      pub ahead-goes : (e : Emitted) (last : List ℕ) → Emits (derivation (F p)) (size (F p)) end new last e → size (F p) ≤ ROOM
+          → Ahead F r old at (j + 1) (e .end) (n + e .stores) last (r .second)
+      ahead-goes e last w k =
+          let rest = derivations (map F (drop (j + 1) (placings r))) in
+          record {
+            next = next-goes r count j p (a .next) h;
+            place = omega (arith, a .place, w .end, ap length ahead-bytes, length-append (derivation (F p)) rest);
+            bytes = ap (λ (i : ℕ). sets last i rest) (w .end) ∙ ap (λ (l : List ℕ). sets l (end + length (derivation (F p))) rest) (w .written) ∙ sets-append new end (derivation (F p)) rest
+                ∙ ap (sets new end) (sym ahead-bytes) ∙ a .bytes;
+            long = ap length (w .written) ∙ length-sets new end (derivation (F p)) ∙ a .long;
+            stores = omega (arith, a .stores, w .stores, ap (λ (ps : List Placing). fold SUM size (map F ps)) (a .next .next h));
+            small = omega (arith, a .small, w .stores);
+          }
 
-pub sets-after-both : (l l1 l2 last : List ℕ) (at r1 r2 a b : ℕ) (ds ds1 es es1 all : List ℕ) → last ≡ sets l2 r2 es → r2 ≡ r1 + length ds
-    → l2 ≡ sets l1 r1 ds → r1 ≡ at + 2 → l1 ≡ sets l at (a ∷ b ∷ []) → ds ≡ ds1 → es ≡ es1 → all ≡ a ∷ b ∷ (ds1 ++ es1) → last ≡ sets l at all
-sets-after-both l l1 l2 last at r1 r2 a b ds ds1 es es1 all w r2e o2 r1e o1 d g e =
-    let first : l2 ≡ sets (sets l at (a ∷ b ∷ [])) (at + 2) ds1
-    = o2 ∙ ap (λ (k : ℕ). sets l1 k ds) r1e ∙ ap (λ (m : List ℕ). sets m (at + 2) ds) o1 ∙ ap (λ (k : List ℕ). sets (sets l at (a ∷ b ∷ [])) (at + 2) k) d in
-    let place : r2 ≡ at + 2 + length ds1 = r2e ∙ ap (λ (k : ℕ). k + length ds) r1e ∙ ap (λ (k : List ℕ). at + 2 + length k) d in
-    w ∙ ap (λ (k : ℕ). sets l2 k es) place ∙ ap (λ (m : List ℕ). sets m (at + 2 + length ds1) es) first
-    ∙ ap (λ (k : List ℕ). sets (sets (sets l at (a ∷ b ∷ [])) (at + 2) ds1) (at + 2 + length ds1) k) g ∙ sets-both l at a b ds1 es1 all e
-
--- A theorem's step is closed or reduced.
-pub no-other : {Q : Type 0} (q : List ℕ) (S : Sequent) (r : Finding) → innerOf q r ≡ inner 1 S → tree S .end ≡ Theorem → OneOf (1 ∷ 2 ∷ 3 ∷ []) (tagOf the-type r) → Q
-no-other {Q} q S r e h k = go r (subst Goes (sym e) (theorem-goes S h)) k
-  where
-    go : (r : Finding) → Goes (innerOf q r) → OneOf (1 ∷ 2 ∷ 3 ∷ []) (tagOf the-type r) → Q
-    go (Closed j) g k = absurd (miss (1 ∷ 2 ∷ 3 ∷ []) 0 tt k)
-    go (Open σ) g k = absurd g
-    go FullFound g k = absurd g
-    go SpentFound g k = absurd g
-    go (Reduce u i p) g k = absurd (miss (1 ∷ 2 ∷ 3 ∷ []) 4 tt k)
-
-pub place-small : (q : List ℕ) (s : Running) (t : Side) (i p : ℕ) → length (s .items) ≡ ROOM → FoundAt q s t i p → i < ROOM
-place-small q s t i p h f = omega (arith, f .inside, length-take (countOf t s) (lane t (s .items)), lane-length t (s .items))
+    pub ahead-ends : r .premises ≤ j → Emits (derivations (map F (placings r))) (fold SUM size (map F (placings r))) at old new (record { end = end; stores = n })
+    ahead-ends h =
+        let e = next-ends r count j h in
+        record {
+          end = omega (arith, a .place, ap (λ (ps : List Placing). length (derivations (map F ps))) e);
+          written = sym (ap (λ (ps : List Placing). sets new end (derivations (map F ps))) e) ∙ a .bytes;
+          stores = omega (arith, a .stores, ap (λ (ps : List Placing). fold SUM size (map F ps)) e);
+        }

@@ -2,28 +2,30 @@
 use calculus::Kind;
 use calculus::Side;
 use calculus::Verdict;
-use calculus::wide;
 use prover::Finding;
 use question::Reading;
 use question::Refusal;
+use sequent::Placing;
+use sequent::Reduction;
 use sequent::Running;
 ghost use mathlib.Core.Path.{_≡_};
 ghost use mathlib.Core.List.{[], _∷_};
-ghost use Prim.Native.Nat.{ℕ, _+_, _≤_, _<_};
+ghost use Prim.Native.Nat.{ℕ, _+_, _≤_};
 ghost use lib.ListN.{length, take};
 ghost use lib.Seq.{sets};
-ghost use Rattle.calculus.specs.Syntax.{Connective};
+ghost use Rattle.calculus.specs.Fold.{fold, SUM, Each};
+ghost use Rattle.calculus.specs.Syntax.{Connective, size};
 ghost use Rattle.calculus.specs.Bytes.{CONNECTIVE, code, question};
 ghost use Rattle.calculus.specs.Derivation.{REDUCE, orderCode, derivation};
 ghost use Rattle.calculus.specs.Reading.{reading, accepted};
 ghost use Rattle.calculus.specs.Reply.{derive};
 ghost use Rattle.calculus.specs.Tree.{tree};
-ghost use Rattle.calculus.specs.Limits.{ROOM};
-ghost use Rattle.question.specs.Positions.{formulaAt};
-ghost use Rattle.sequent.specs.View.{sequentOf, Stands, Good};
-ghost use Rattle.sequent.specs.Compounds.{compoundAt, IsCompound};
-ghost use Rattle.prover.specs.Inner.{IsDue};
+ghost use Rattle.sequent.specs.declared.Place.the-variants.{At};
+ghost use Rattle.sequent.specs.View.{view, sequentOf, Good};
+ghost use Rattle.sequent.specs.Compounds.{Clear, Found, premisesAt, premiseBy, Makes};
+ghost use Rattle.prover.specs.Inner.{First};
 ghost use Rattle.writer.specs.Answers.{answerOf, IsTheorem, WrittenOut, Evidence};
+ghost use Rattle.writer.specs.Emits.{Provable, derivations, Emits};
 
 pub enum Writing {
     Refused(Refusal),
@@ -33,6 +35,12 @@ pub enum Writing {
     NoSpace(u64),
     // The length written, and the verdict.
     Written(u64, Verdict),
+}
+
+// The place behind what was written of premises, and the stores made for them.
+struct Emitted {
+    end: usize,
+    stores: usize,
 }
 
 // A command and its operand; answers the place behind them.
@@ -56,73 +64,105 @@ fn command_of(side: Side, b: u8) -> u8
     }
 }
 
-// The command that reduces the compound at p, at a place of a side.
-fn put_reduction(q: &[u8], buffer: &mut [u8], at: usize, side: Side, place: usize, p: u8) -> usize
-    requires { ⌜ (at + 2 ≤ length (now buffer)) × (place < ROOM) × Stands (now q) p × IsCompound (formulaAt (now q) p) ⌝ }
-    ensures { λ r. ⌜
-        (r ≡ at + 2)
-        × (now (buffer .exit)
-        ≡ sets (now (buffer .entry)) at (orderCode (REDUCE side (compoundAt (now (q .entry)) p .connective)) ∷ place ∷ [])) ⌝ }
-{
-    let b = q[wide(p)];
-    put(buffer, at, command_of(side, b), place as u8)
-}
-
-// The derivation of a theorem from a place on; answers the place behind it.
-fn emit(q: &[u8], s: Running, buffer: &mut [u8], at: usize) -> usize
+// The derivation of a theorem from a place on; answers the place behind it. Letters alone stand before place `from`.
+fn emit(nodes: &[u32; 48], items: &[u8; 80], s: Running, from: usize, buffer: &mut [u8], at: usize) -> usize
     requires { ⌜
-        Good (now q) s
-        × (tree (sequentOf (now q) s) .end ≡ Kind.Theorem)
-        × (at + length (derivation (sequentOf (now q) s)) ≤ length (now buffer)) ⌝ }
+        Good (now nodes) (now items) s
+        × Clear from (now items) s
+        × (tree (sequentOf (now nodes) (now items) s) .end ≡ Kind.Theorem)
+        × (at + length (derivation (sequentOf (now nodes) (now items) s)) ≤ length (now buffer)) ⌝ }
     ensures { λ r. ⌜
-        (r ≡ at + length (derivation (sequentOf (now (q .entry)) s)))
-        × (now (buffer .exit) ≡ sets (now (buffer .entry)) at (derivation (sequentOf (now (q .entry)) s))) ⌝ }
+        (r ≡ at + length (derivation (sequentOf (now (nodes .entry)) (now (items .entry)) s)))
+        × (now (buffer .exit)
+        ≡ sets (now (buffer .entry)) at (derivation (sequentOf (now (nodes .entry)) (now (items .entry)) s))) ⌝ }
 {
-    let due = prover::step(q, s, 1);
+    let due = prover::step(nodes, items, s, from, 1);
     match due {
         Finding::Closed(k) => put(buffer, at, 0x41, k as u8),
-        Finding::Reduce(side, place, p) => emit_reduction(q, s, buffer, at, side, place, p),
+        Finding::Reduce(r) => {
+            let side = r.side;
+            let i = put(buffer, at, command_of(side, r.connective), r.at as u8);
+            let e = emit_premises(nodes, items, s, r, buffer, i);
+            e.end
+        }
         _ => at,
     }
 }
 
-// The reduction that is due, then the whole derivation of the first premise, then that of the second.
-fn emit_reduction(
-    q: &[u8],
+// A premise of the reduction, made, and its derivation.
+fn emit_premise(
+    nodes: &[u32; 48],
+    items: &[u8; 80],
     s: Running,
+    r: Reduction,
+    p: Placing,
     buffer: &mut [u8],
     at: usize,
-    side: Side,
-    place: usize,
-    p: u8,
-) -> usize
+) -> Emitted
     requires { ⌜
-        Good (now q) s
-        × (tree (sequentOf (now q) s) .end ≡ Kind.Theorem)
-        × (at + length (derivation (sequentOf (now q) s)) ≤ length (now buffer))
-        × IsDue (now q) s 1 side place p ⌝ }
-    ensures { λ r. ⌜
-        (r ≡ at + length (derivation (sequentOf (now (q .entry)) s)))
-        × (now (buffer .exit) ≡ sets (now (buffer .entry)) at (derivation (sequentOf (now (q .entry)) s))) ⌝ }
+        Makes (now nodes) (now items) s r p
+        × Found (view s (now items)) (At (r .side) (r .at))
+        × Provable (premiseBy (now nodes) (now items) s r p)
+        × (at + length (derivation (premiseBy (now nodes) (now items) s r p)) ≤ length (now buffer)) ⌝ }
+    ensures { λ e. ⌜
+        Emits
+        (derivation (premiseBy (now (nodes .entry)) (now (items .entry)) s r p))
+        (size (premiseBy (now (nodes .entry)) (now (items .entry)) s r p))
+        at
+        (now (buffer .entry))
+        (now (buffer .exit))
+        e ⌝ }
 {
-    let i = put_reduction(q, buffer, at, side, place, p);
-    let how = reduction::reduction_of(q, p, side);
-    let rule = how.rule;
-    let e = emit(
-        q,
-        s.premise(q, side, place, rule.first, how.f, how.g),
-        buffer,
-        i,
-    );
-    if rule.premises != 2 {
-        return e;
+    let side = r.side;
+    let mut next = [0u8; 80];
+    let made = s.premise(items, &mut next, side, r.at, p, r.f, r.g);
+    let t = made.running;
+    let end = emit(nodes, &next, t, s.start(side, r.at), buffer, at);
+    Emitted {
+        end: end,
+        stores: made.stores,
     }
-    emit(
-        q,
-        s.premise(q, side, place, rule.second, how.f, how.g),
-        buffer,
-        e,
-    )
+}
+
+// The whole derivation of the first premise, then that of the second.
+fn emit_premises(
+    nodes: &[u32; 48],
+    items: &[u8; 80],
+    s: Running,
+    r: Reduction,
+    buffer: &mut [u8],
+    at: usize,
+) -> Emitted
+    requires { ⌜
+        First (now nodes) (now items) s r
+        × Each Provable (premisesAt (now nodes) (now items) s r)
+        × (at + length (derivations (premisesAt (now nodes) (now items) s r)) ≤ length (now buffer)) ⌝ }
+    ensures { λ e. ⌜
+        Emits
+        (derivations (premisesAt (now (nodes .entry)) (now (items .entry)) s r))
+        (fold SUM size (premisesAt (now (nodes .entry)) (now (items .entry)) s r))
+        at
+        (now (buffer .entry))
+        (now (buffer .exit))
+        e ⌝ }
+{
+    let rule = r.rule;
+    let n = rule.premises;
+    let mut p = rule.first;
+    let mut end = at;
+    let mut stores = 0;
+    let mut j = 0;
+    while j < n {
+        let e = emit_premise(nodes, items, s, r, p, buffer, end);
+        end = e.end;
+        stores += e.stores;
+        p = rule.second;
+        j += 1;
+    }
+    Emitted {
+        end: end,
+        stores: stores,
+    }
 }
 
 // The derivation of a theorem, if the buffer holds it.
@@ -134,7 +174,10 @@ fn write_out(q: &[u8], v: Verdict, buffer: &mut [u8]) -> Writing
     if (buffer.len() as u64) < needed {
         return Writing::NoSpace(needed);
     }
-    emit(q, reduction::root(q), buffer, 0);
+    let mut nodes = [0u32; 48];
+    let mut items = [0u8; 80];
+    let s = names::root(q, &mut nodes, &mut items);
+    emit(&nodes, &items, s, 0, buffer, 0);
     Writing::Written(needed, v)
 }
 
