@@ -63,7 +63,14 @@ fn overfull(rule: Rule, n: usize) -> bool
 }
 
 // The tests at a sequent whose first compound is at a place of a side: FULL, SPENT, then the reduction.
-fn due_at(nodes: &[u32; 48], items: &[u8; 80], s: Running, side: Side, at: usize, left: u64) -> Finding
+fn due_at(
+    nodes: &[u32; 48],
+    items: &[u8; 80],
+    s: Running,
+    side: Side,
+    at: usize,
+    left: u64,
+) -> Finding
     requires { ⌜ Good (now nodes) (now items) s × Found (view s (now items)) (At side at) ⌝ }
     ensures { λ r. ⌜
         (innerOf (now (nodes .entry)) (view s (now (items .entry))) r
@@ -136,7 +143,14 @@ fn run(nodes: &[u32; 48], items: &[u8; 80], s: Running, from: usize, left: u64) 
 }
 
 // A premise of the reduction, made and run.
-fn run_premise(nodes: &[u32; 48], items: &[u8; 80], s: Running, r: Reduction, p: Placing, left: u64) -> Reduced
+fn run_premise(
+    nodes: &[u32; 48],
+    items: &[u8; 80],
+    s: Running,
+    r: Reduction,
+    p: Placing,
+    left: u64,
+) -> Reduced
     requires { ⌜
         Makes (now nodes) (now items) s r p
         × Found (view s (now items)) (At (r .side) (r .at))

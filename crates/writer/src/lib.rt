@@ -65,7 +65,14 @@ fn command_of(side: Side, b: u8) -> u8
 }
 
 // The derivation of a theorem from a place on; answers the place behind it. Letters alone stand before place `from`.
-fn emit(nodes: &[u32; 48], items: &[u8; 80], s: Running, from: usize, buffer: &mut [u8], at: usize) -> usize
+fn emit(
+    nodes: &[u32; 48],
+    items: &[u8; 80],
+    s: Running,
+    from: usize,
+    buffer: &mut [u8],
+    at: usize,
+) -> usize
     requires { ⌜
         Good (now nodes) (now items) s
         × Clear from (now items) s

@@ -201,12 +201,14 @@ pub +reduce+run+run-premise-spec : {M : Type 1} → statement M
     let h = s .pre .1 in
     let m = c .before .before .before .premise in
     let e : connectivesOf (sequentOf (a .nodes .now) (m .last .1 .1 .0) (m .result .running)) ≡ connectivesOf (premiseBy (a .nodes .now) (a .items .now) (a .s) (a .r) (a .p))
-    = ap connectivesOf (made-is (a .nodes .now) (a .items .now) (a .s) (a .r) (a .p) (h .0) _ (m .last .1 .1 .0) (m .result) (m .ensures)) in
-    (omega (arith, s .pre .0, e, h .0 .fewer), (
-      made-good (a .nodes .now) (a .items .now) (a .s) (a .r) (a .p) (h .0) _ (m .last .1 .1 .0) (m .result) (m .ensures),
-      rw (c .start .ensures) (made-clear (a .nodes .now) (a .items .now) (a .s) (a .r) (a .p) (h .0) _ (m .last .1 .1 .0) (m .result) (m .ensures) (h .1)),
-      omega (arith, e, h .0 .fewer, h .2),
-    )))
+    = ap connectivesOf (made-is (a .nodes .now) (a .items .now) (a .s) (a .r) (a .p) (h .0) _ (m .last .1 .1 .0) (m .result) (m .ensures)) in (
+      omega (arith, s .pre .0, e, h .0 .fewer),
+      (
+        made-good (a .nodes .now) (a .items .now) (a .s) (a .r) (a .p) (h .0) _ (m .last .1 .1 .0) (m .result) (m .ensures),
+        rw (c .start .ensures) (made-clear (a .nodes .now) (a .items .now) (a .s) (a .r) (a .p) (h .0) _ (m .last .1 .1 .0) (m .result) (m .ensures) (h .1)),
+        omega (arith, e, h .0 .fewer, h .2),
+      ),
+    ))
     (λ c.
     let s = c .before .before .before .before .before .before in
     let a = s .args in

@@ -201,12 +201,14 @@ pub +emit+emit-premise+emit-premises-spec : {M : Type 1} → statement M
     let h = s .pre .1 in
     let r = reductionAt t u in
     let w = ready-now t u in
-    let p = c .before .before .before .put2 in
-    (omega (arith, s .pre .0), (
-      record { good = h .0; found = w .found; can = w .can },
-      premises-provable (sequentAt t s) (r .side) (r .at) (compoundAt (a .nodes .now) (r .side) (r .at) (view (a .s) (a .items .now))) (due-now t u) (h .2),
-      omega (arith, h .3, ap length (command-now t u), p .ensures .0, p .kept .0),
-    )))
+    let p = c .before .before .before .put2 in (
+      omega (arith, s .pre .0),
+      (
+        record { good = h .0; found = w .found; can = w .can },
+        premises-provable (sequentAt t s) (r .side) (r .at) (compoundAt (a .nodes .now) (r .side) (r .at) (view (a .s) (a .items .now))) (due-now t u) (h .2),
+        omega (arith, h .3, ap length (command-now t u), p .ensures .0, p .kept .0),
+      ),
+    ))
     (λ c. c .before .before .put .kept .0)
     (λ c.
     let u = c .before .before .before .before .before in
@@ -224,12 +226,13 @@ pub +emit+emit-premise+emit-premises-spec : {M : Type 1} → statement M
     let p = c .before .before .before .before .before .before .put2 .ensures in
     let e = c .before .before .emit-premises .ensures in
     let ds = derivations (premisesNow t u) in
-    let k = c .before .before .before .before .before .before .before .before .command-of .ensures (compoundAt (a .nodes .now) (r .side) (r .at) (view (a .s) (a .items .now)) .connective) (sym (command-made (a .nodes .now) (a .items .now) (a .s) (s .pre .1 .0) r (ready-now t u .can))) in
-    (omega (arith, e .end, p .0, ap length (command-now t u)),
-    e .written ∙ ap (λ (i : ℕ). sets (c .before .before .before .before .before .before .put2 .last .0) i ds) (p .0) ∙ ap (λ (l : List ℕ). sets l (a .at + 2) ds) (p .1)
-    ∙ ap (λ (b : ℕ). sets (sets (a .buffer .now) (a .at) (b ∷ r .at ∷ [])) (a .at + 2) ds) k
-    ∙ sets-behind (a .buffer .now) (a .at) (orderCode (REDUCE (r .side) (compoundAt (a .nodes .now) (r .side) (r .at) (view (a .s) (a .items .now)) .connective))) (r .at) ds
-    ∙ ap (sets (a .buffer .now) (a .at)) (sym (command-now t u))))
+    let k = c .before .before .before .before .before .before .before .before .command-of .ensures (compoundAt (a .nodes .now) (r .side) (r .at) (view (a .s) (a .items .now)) .connective) (sym (command-made (a .nodes .now) (a .items .now) (a .s) (s .pre .1 .0) r (ready-now t u .can))) in (
+      omega (arith, e .end, p .0, ap length (command-now t u)),
+      e .written ∙ ap (λ (i : ℕ). sets (c .before .before .before .before .before .before .put2 .last .0) i ds) (p .0) ∙ ap (λ (l : List ℕ). sets l (a .at + 2) ds) (p .1)
+          ∙ ap (λ (b : ℕ). sets (sets (a .buffer .now) (a .at) (b ∷ r .at ∷ [])) (a .at + 2) ds) k
+          ∙ sets-behind (a .buffer .now) (a .at) (orderCode (REDUCE (r .side) (compoundAt (a .nodes .now) (r .side) (r .at) (view (a .s) (a .items .now)) .connective))) (r .at) ds
+          ∙ ap (sets (a .buffer .now) (a .at)) (sym (command-now t u)),
+    ))
     (λ c.
     let s = c .before .before .before in
     let a = s .args in
@@ -256,13 +259,15 @@ pub +emit+emit-premise+emit-premises-spec : {M : Type 1} → statement M
     let a = s .args in
     let h = s .pre .1 in
     let m = c .before .before .before .before .premise in
-    let e = made-is (a .nodes .now) (a .items .now) (a .s) (a .r) (a .p) (h .0) _ (m .last .1 .1 .0) (m .result) (m .ensures) in
-    (omega (arith, s .pre .0, ap connectivesOf e, h .0 .fewer), (
-      made-good (a .nodes .now) (a .items .now) (a .s) (a .r) (a .p) (h .0) _ (m .last .1 .1 .0) (m .result) (m .ensures),
-      rw (c .before .start .ensures) (made-clear (a .nodes .now) (a .items .now) (a .s) (a .r) (a .p) (h .0) _ (m .last .1 .1 .0) (m .result) (m .ensures) (h .1)),
-      ap (λ (P : Sequent). tree P .end) e ∙ h .2,
-      omega (arith, ap (λ (P : Sequent). length (derivation P)) e, h .3),
-    )))
+    let e = made-is (a .nodes .now) (a .items .now) (a .s) (a .r) (a .p) (h .0) _ (m .last .1 .1 .0) (m .result) (m .ensures) in (
+      omega (arith, s .pre .0, ap connectivesOf e, h .0 .fewer),
+      (
+        made-good (a .nodes .now) (a .items .now) (a .s) (a .r) (a .p) (h .0) _ (m .last .1 .1 .0) (m .result) (m .ensures),
+        rw (c .before .start .ensures) (made-clear (a .nodes .now) (a .items .now) (a .s) (a .r) (a .p) (h .0) _ (m .last .1 .1 .0) (m .result) (m .ensures) (h .1)),
+        ap (λ (P : Sequent). tree P .end) e ∙ h .2,
+        omega (arith, ap (λ (P : Sequent). length (derivation P)) e, h .3),
+      ),
+    ))
     (λ c. c .before .before .emit .kept .1 .1 .1 .1 .0)
     (λ c.
     let s = c .before .before .before .before .before .before .before .before .before .before in
@@ -293,13 +298,15 @@ pub +emit+emit-premise+emit-premises-spec : {M : Type 1} → statement M
     let h = s .pre .1 in
     let l = c .before .before .loop in
     let taken = c .before .loop-test .taken in
-    let all = premises-made (a .nodes .now) (a .items .now) (a .s) (h .0 .good) (a .r) (h .0 .can) in
-    (omega (arith, s .pre .0), (
-      makes-now t (c .before),
-      h .0 .found,
-      next-provable (premiseBy (a .nodes .now) (a .items .now) (a .s) (a .r)) (a .r .rule) (few (a .nodes .now) (a .items .now) (a .s) (h .0 .good) (a .r) (h .0 .can)) (a .buffer .now) (a .at) (l .j) (l .end) (l .stores) (l .buffer) (l .p) (l .inv) (subst (Each Provable) (sym all) (h .1)) taken,
-      next-room (premiseBy (a .nodes .now) (a .items .now) (a .s) (a .r)) (a .r .rule) (few (a .nodes .now) (a .items .now) (a .s) (h .0 .good) (a .r) (h .0 .can)) (a .buffer .now) (a .at) (l .j) (l .end) (l .stores) (l .buffer) (l .p) (l .inv) taken (omega (arith, h .2, ap (λ (Ps : List Sequent). length (derivations Ps)) all)),
-    )))
+    let all = premises-made (a .nodes .now) (a .items .now) (a .s) (h .0 .good) (a .r) (h .0 .can) in (
+      omega (arith, s .pre .0),
+      (
+        makes-now t (c .before),
+        h .0 .found,
+        next-provable (premiseBy (a .nodes .now) (a .items .now) (a .s) (a .r)) (a .r .rule) (few (a .nodes .now) (a .items .now) (a .s) (h .0 .good) (a .r) (h .0 .can)) (a .buffer .now) (a .at) (l .j) (l .end) (l .stores) (l .buffer) (l .p) (l .inv) (subst (Each Provable) (sym all) (h .1)) taken,
+        next-room (premiseBy (a .nodes .now) (a .items .now) (a .s) (a .r)) (a .r .rule) (few (a .nodes .now) (a .items .now) (a .s) (h .0 .good) (a .r) (h .0 .can)) (a .buffer .now) (a .at) (l .j) (l .end) (l .stores) (l .buffer) (l .p) (l .inv) taken (omega (arith, h .2, ap (λ (Ps : List Sequent). length (derivations Ps)) all)),
+      ),
+    ))
     (λ c. omega (arith, c .before .before .before .emit-premise .ensures .stores, makes-now t (c .before .before .before .before .before) .small, j-small t (c .before .before .before .before .before), c .before .before .before .before .before .before .loop .inv .small))
     (λ c. omega (arith, j-small t (c .before .before .before .before .before .before)))
     (λ c. omega (arith, c .before .before .before .before .before .before .loop-test .taken))
