@@ -27,6 +27,13 @@ typedef struct {
 } reading_time;
 
 typedef struct {
+    const char *set;
+    int theorems;
+    double decide, derive, check; // nanoseconds a theorem
+    double derive_before, check_before;
+} derivation_time;
+
+typedef struct {
     const char *call;
     size_t bytes;
     int questions;
@@ -40,6 +47,7 @@ typedef struct {
     lister listers[MOST_LISTERS]; // the first is the library under test
     int listers_count;
     reading_time readings[SETS + 1];
+    derivation_time derivations[SETS];
     stack_use stacks[CALLS];
 } results;
 
@@ -50,6 +58,9 @@ void sum_up(double *samples, int count, double *best, double *median);
 void add_listers(results *r);
 void check_listing(const results *r);
 void time_listing(results *r);
+
+// Writing and checking derivations of the theorems, by the library and by the archive before, if one is given.
+void time_derivations(results *r);
 
 void write_table(FILE *file, const results *r);
 void write_plot(FILE *file, const results *r);

@@ -8,6 +8,9 @@
 
 typedef uint32_t read_call(const uint8_t *question, size_t length, uint64_t out[2]);
 
+#ifdef WITH_BEFORE
+decide before_decide;
+#endif
 #ifdef WITH_CLANG
 decide peer_value_decide_clang, peer_best_decide_clang, peer_sets_decide_clang;
 read_call peer_scan_clang;
@@ -30,6 +33,9 @@ static void add(results *r, const char *name, const char *note, decide *f, bool 
 static void list_implementations(results *r, bool lisp)
 {
     add(r, "gekunday", "the library, proved", gekunday_decide, true);
+#ifdef WITH_BEFORE
+    add(r, "before", "the archive in GEKUNDAY_BEFORE", before_decide, true);
+#endif
     add(r, "peer_value (" CC_NAME ")", "C, sequent copied for each premise", peer_value_decide, true);
 #ifdef WITH_CLANG
     add(r, "peer_value (clang)", "the same", peer_value_decide_clang, true);
@@ -284,6 +290,7 @@ int main(int count, char **arguments)
     time_reading(&r.readings[0], &r.sets[0], r.rounds);
     time_reading(&r.readings[1], &r.sets[1], r.rounds);
     time_reading(&r.readings[2], &longest, r.rounds);
+    time_derivations(&r);
     time_listing(&r);
     probe_stacks(&r, &longest);
     FILE *table = open_out(out, "table.md"), *plot = open_out(out, "plot.svg");

@@ -99,6 +99,32 @@ static void write_readings(FILE *file, const results *r)
     }
 }
 
+static void write_derivations(FILE *file, const results *r)
+{
+    fprintf(file, "\n## Derivations\n\n| theorems of | decide | derive | derive / decide | check | check / decide |");
+#ifdef WITH_BEFORE
+    fprintf(file, " derive / before | check / before |");
+#endif
+    fprintf(file, "\n|---|---:|---:|---:|---:|---:|");
+#ifdef WITH_BEFORE
+    fprintf(file, "---:|---:|");
+#endif
+    fprintf(file, "\n");
+    for (int s = 0; s < SETS; s++) {
+        const derivation_time *t = &r->derivations[s];
+        char decide[32], derive[32], check[32];
+        format_time(decide, sizeof decide, t->decide);
+        format_time(derive, sizeof derive, t->derive);
+        format_time(check, sizeof check, t->check);
+        fprintf(file, "| %s (%d) | %s | %s | %.2f | %s | %.2f |", t->set, t->theorems, decide, derive,
+                t->derive / t->decide, check, t->check / t->decide);
+#ifdef WITH_BEFORE
+        fprintf(file, " %.2f | %.2f |", t->derive / t->derive_before, t->check / t->check_before);
+#endif
+        fprintf(file, "\n");
+    }
+}
+
 void write_table(FILE *file, const results *r)
 {
     fprintf(file, "# Time of a decision\n\n");
@@ -108,6 +134,7 @@ void write_table(FILE *file, const results *r)
         write_set(file, r, s);
     write_listing(file, r);
     write_readings(file, r);
+    write_derivations(file, r);
     fprintf(file, "\n## Stack\n\n| call | greatest depth | questions tried |\n|---|---:|---:|\n");
     for (int i = 0; i < CALLS; i++) {
         const stack_use *u = &r->stacks[i];

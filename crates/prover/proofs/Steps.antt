@@ -1,18 +1,18 @@
 -- The tests at a running sequent, in their order.
 -- Assumes nothing.
 use mathlib.Core.Path.{_≡_, refl, sym, ap, _∙_, subst}
-use mathlib.Core.Bool.{Bool, true, false, _||_}
+use mathlib.Core.Bool.{Bool, true, false}
 use mathlib.Core.Option.{none, some}
 use mathlib.Core.List.{List, [], _∷_}
 use Prim.Native.Nat.{ℕ, zero, suc, _+_, _≤_, _<_}
 use native.Mathlib.Omega.{arith}
-use lib.Dec.{eqb, ltb}
+use lib.Dec.{ltb}
 use borrow.Author.Tests.{lt-ltb, le-ltb, eq-eqb, ne-eqb, ltb-false}
 use Rattle.calculus.specs.declared.Side.{Side}
 use Rattle.calculus.specs.declared.Side.the-variants.{Left, Right}
 use Rattle.calculus.specs.Fold.{fold, ANY, Each, choose}
 use Rattle.calculus.specs.Limits.{ROOM, LETTERS}
-use Rattle.calculus.specs.Syntax.{Sequent, on-side, size}
+use Rattle.calculus.specs.Syntax.{Sequent, size}
 use Rattle.calculus.specs.Table.{premises}
 use Rattle.calculus.specs.Tree.{letters, state, closing, first, due, tests, full, reduced, isClosed, isOpen, isFull, isSpent, isDue, afford, inner}
 use Rattle.calculus.proofs.Folds.{or-false-both}
@@ -22,7 +22,7 @@ use Rattle.sequent.specs.declared.Reduction.{Reduction}
 use Rattle.sequent.specs.declared.Place.the-variants.{At, Nowhere}
 use Rattle.sequent.specs.Rule.{premiseOf, overfullOf}
 use Rattle.sequent.specs.View.{view, countOf, nameAt, sequentOf, Good}
-use Rattle.sequent.specs.Compounds.{Found, compoundAt, reductionAt, premisesAt, Reducible}
+use Rattle.sequent.specs.Compounds.{Found, compoundAt, reductionAt}
 use Rattle.sequent.proofs.Restarts.{found-inside, found-name}
 use Rattle.sequent.proofs.Goods.{slot-name, full-is, found-left, found-right, found-nowhere}
 use Rattle.prover.specs.Inner.{ReadyAt}

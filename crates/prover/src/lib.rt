@@ -14,7 +14,7 @@ use sequent::Running;
 ghost use mathlib.Core.Path.{_≡_};
 ghost use Prim.Native.Nat.{_+_, _≤_, _<_};
 ghost use Rattle.calculus.specs.Limits;
-ghost use Rattle.calculus.specs.Limits.{LETTERS, CONNECTIVES};
+ghost use Rattle.calculus.specs.Limits.{CONNECTIVES};
 ghost use Rattle.calculus.specs.Syntax.{c};
 ghost use Rattle.calculus.specs.Bytes.{question};
 ghost use Rattle.calculus.specs.Reading.{reading, accepted};

@@ -1,46 +1,43 @@
 -- What holds of a running sequent that a run or a check meets, and of the premises made of it.
 -- Assumes nothing.
 use mathlib.Core.Path.{_≡_, refl, sym, ap, _∙_, subst}
-use mathlib.Core.Bool.{true, false}
 use mathlib.Core.Option.{Option, some}
-use mathlib.Core.List.{List, [], _∷_, _++_, map}
-use Prim.Native.Nat.{ℕ, suc, _+_, _%_, _^_, _≤_, _<_}
+use mathlib.Core.List.{List, [], _∷_, map}
+use Prim.Native.Nat.{ℕ, _+_, _≤_, _<_}
 use native.Mathlib.Omega.{arith}
 use native.Mathlib.Decide.{decLt}
-use lib.Bits.{bitOr}
 use lib.Dec.{ltb}
-use lib.ListN.{length, take, drop, getD, getElem?, length-map, length-drop}
+use lib.ListN.{length, drop, getD, getElem?, length-drop}
 use lib.Seq.{length-take-le, getD-take, getD-drop}
 use borrow.Author.Tests.{lt-ltb, le-ltb}
 use Rattle.calculus.specs.declared.Side.{Side}
 use Rattle.calculus.specs.declared.Side.the-variants.{Left, Right}
-use Rattle.calculus.specs.Fold.{fold, ANY, SUM, Each, choose}
+use Rattle.calculus.specs.Fold.{fold, ANY, Each}
 use Rattle.calculus.specs.Limits.{ROOM, LETTERS, CONNECTIVES}
 use Rattle.calculus.specs.Syntax.{Connective, NOT, two, Formula, letter, neg, join, Compound, compound, whole, Seq, Sequent, on-side, c, size}
 use Rattle.calculus.specs.Bytes.{CONNECTIVE, code}
-use Rattle.calculus.specs.Table.{premise, premises, table, on}
+use Rattle.calculus.specs.Table.{premise, premises, table}
 use Rattle.calculus.specs.Tree.{letters, state, missing, here, later, first}
 use Rattle.calculus.proofs.Folds.{each-append}
 use Rattle.calculus.proofs.Sequents.{Due, Smaller, smaller}
 use Rattle.sequent.specs.declared.Placing.{Placing}
-use Rattle.sequent.specs.declared.Rule.{Rule}
 use Rattle.sequent.specs.declared.Running.{Running}
 use Rattle.sequent.specs.declared.Built.{Built}
 use Rattle.sequent.specs.declared.Reduction.{Reduction}
 use Rattle.sequent.specs.declared.Place.the-variants.{At, Nowhere}
-use Rattle.sequent.specs.Names.{nodeOf, firstOf, secondOf, formulaIn, Known}
+use Rattle.sequent.specs.Names.{formulaIn, Known}
 use Rattle.sequent.specs.Rule.{ruleOf, partsOn, placed, premisesOf, sided, placings, overfullOf}
-use Rattle.sequent.specs.View.{view, countOf, maskOf, slotOf, startOf, nameAt, named, sequentOf, bitOf, lettersOf, Masked, Good}
+use Rattle.sequent.specs.View.{view, countOf, maskOf, slotOf, startOf, nameAt, named, sequentOf, bitOf, lettersOf, Good}
 use Rattle.sequent.specs.Passes.{Builds}
 use Rattle.sequent.specs.Compounds.{firstIn, Clear, Found, compoundOf, IsCompound, compoundAt, reductionAt, premisesAt, premiseBy, Reducible, Makes}
 use Rattle.sequent.proofs.Lists.{on-left, on-right, element, each-splice, each-parts, each-at, each-unmap, ones}
 use Rattle.sequent.proofs.Rows.{rows-of}
 use Rattle.sequent.proofs.Masks.{letterBit, state-fold, OR}
-use Rattle.sequent.proofs.Letters.{letters-fold, masked-premise}
+use Rattle.sequent.proofs.Letters.{masked-premise}
 use Rattle.sequent.proofs.Namings.{letter-named, Compounded, compound-named, rule-connective}
-use Rattle.sequent.proofs.Rules.{rule-premises, rule-full, rule-stores, size-named}
+use Rattle.sequent.proofs.Rules.{rule-premises, rule-full, size-named}
 use Rattle.sequent.proofs.Placings.{OneOrTwo, one-or-two, Next, next-each}
-use Rattle.sequent.proofs.Restarts.{found-inside, found-name, restarts}
+use Rattle.sequent.proofs.Restarts.{restarts}
 
 -- ---- names that are known: their letters, and the first compound
 
@@ -172,10 +169,6 @@ module _ (T items : List ℕ) (s : Running) (good : Good T items s) where
         pub premises-are : map premiseOf (placings (r .rule)) ≡ premises t i x (sequentOf T items s)
         premises-are = rule-premises (formulaIn T) (view s items) t i (r .f) (r .g) x first-part second-part (r .rule) rows
 
-        -- the stores of all premises are their formulas, for any row of the table
-        pub stores-are : fold SUM (λ p. size (premise t i (view s items) (placed p (r .f) (r .g)))) (placings (r .rule)) ≡ fold SUM size (premises t i x (sequentOf T items s))
-        stores-are = rule-stores (formulaIn T) (view s items) t i (r .f) (r .g) x first-part second-part (r .rule) rows
-
         pub full-is : fold ANY (λ P. ltb ROOM (size P)) (premises t i x (sequentOf T items s)) ≡ overfullOf (r .rule) (s .lefts + s .rights)
         full-is = rule-full (formulaIn T) (view s items) t i (r .f) (r .g) x first-part second-part (r .rule) rows inside ∙ ap (overfullOf (r .rule)) size-held
 
@@ -209,10 +202,6 @@ module _ (T items : List ℕ) (s : Running) (good : Good T items s) where
   module _ (r : Reduction) (can : Reducible T items s r) where
     pub premises-made : map (premiseBy T items s r) (placings (r .rule)) ≡ premisesAt T items s r
     premises-made = premises-are (r .side) (r .at) (can .inside) (can .compound) r (can .exact)
-
-    -- the stores of all premises are their formulas, for any row of the table
-    pub stores-made : fold SUM (λ p. size (premise (r .side) (r .at) (view s items) (placed p (r .f) (r .g)))) (placings (r .rule)) ≡ fold SUM size (premisesAt T items s r)
-    stores-made = stores-are (r .side) (r .at) (can .inside) (can .compound) r (can .exact)
 
     pub few : OneOrTwo (r .rule)
     few = rw (rule-is (r .side) (r .at) (can .inside) (can .compound) r (can .exact)) (one-or-two (compoundAt T (r .side) (r .at) (view s items) .connective) (r .side))

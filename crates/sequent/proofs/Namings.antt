@@ -2,15 +2,15 @@
 -- Assumes nothing.
 use mathlib.Core.Path.{_≡_, refl, sym, ap, _∙_}
 use mathlib.Core.List.{List}
-use Prim.Native.Nat.{ℕ, zero, suc, _+_, _-_, _/_, _%_, _≤_, _<_}
+use Prim.Native.Nat.{ℕ, zero, suc, _+_, _-_, _%_, _≤_, _<_}
 use native.Mathlib.Omega.{arith}
 use lib.ListN.{length, getD}
 use borrow.Author.Tests.{lt-ltb, le-ltb}
 use Rattle.calculus.specs.Limits.{LETTERS, CONNECTIVES}
-use Rattle.calculus.specs.Syntax.{AND, OR, IMPLIES, EQUIV, Binary, Connective, NOT, two, Formula, letter, neg, join, Compound, compound, whole, connectives}
+use Rattle.calculus.specs.Syntax.{AND, OR, IMPLIES, EQUIV, Binary, Connective, NOT, two, Formula, letter, neg, join, whole, connectives}
 use Rattle.calculus.specs.Bytes.{CONNECTIVE, code}
 use Rattle.sequent.specs.Names.{name, node, Told, nodeOf, connectiveOf, firstOf, secondOf, formulaBy, formulaIn, Known}
-use Rattle.sequent.specs.Compounds.{compoundOf, IsCompound}
+use Rattle.sequent.specs.Compounds.{compoundOf}
 
 -- ---- nodes
 

@@ -2,7 +2,7 @@
 -- Assumes nothing.
 use mathlib.Core.Path.{_≡_, refl, sym, ap, _∙_}
 use mathlib.Core.List.{List, [], _∷_, _++_}
-use Prim.Native.Nat.{ℕ, suc, _+_, _≤_, _<_}
+use Prim.Native.Nat.{ℕ, _+_, _<_}
 use native.Mathlib.Numerals.{add-one}
 use native.Mathlib.Omega.{arith}
 use lib.Bits.{bitOr}
@@ -11,7 +11,7 @@ use lib.Seq.{slice, take-suc-set, take-set-le, drop-append-le, length-take-le}
 use Rattle.calculus.specs.declared.Side.the-variants.{Left, Right}
 use Rattle.calculus.specs.Limits.{ROOM}
 use Rattle.sequent.specs.declared.Running.{Running}
-use Rattle.sequent.specs.View.{view, bitOf, Pushed}
+use Rattle.sequent.specs.View.{bitOf, Pushed}
 use Rattle.sequent.proofs.Premises.{take-drop}
 
 module _ (s : Running) (l : List ℕ) (d b : ℕ) (room : s .lefts + s .rights < ROOM) (full : length l ≡ ROOM) (bit : b ≡ bitOf d) where

@@ -1,5 +1,5 @@
 -- The run meets its contract: the connectives of the running sequent fall from a sequent to its premises. Assumes nothing.
-use mathlib.Core.Path.{_≡_, refl, sym, ap, _∙_}
+use mathlib.Core.Path.{_≡_, ap, _∙_}
 use mathlib.Core.List.{[], _∷_}
 use Prim.Native.Nat.{ℕ, _+_, _-_, _*_, _^_, _≤_, _<_}
 use native.Mathlib.Omega.{arith}
@@ -9,10 +9,10 @@ use borrow.Fn.PlainCycle.{Measures, is, falls, and}
 use types.Run.{miss}
 use Rattle.calculus.specs.declared.Outcome.{Outcome}
 use Rattle.calculus.specs.Limits.{CONNECTIVES}
-use Rattle.calculus.specs.Syntax.{Sequent, c as connectivesOf}
-use Rattle.calculus.specs.Tree.{outcome, isClosed, isOpen, isFull, isSpent, isDue}
+use Rattle.calculus.specs.Syntax.{c as connectivesOf}
+use Rattle.calculus.specs.Tree.{outcome}
 use Rattle.sequent.specs.View.{sequentOf}
-use Rattle.sequent.specs.Compounds.{compoundAt, premiseBy, Makes}
+use Rattle.sequent.specs.Compounds.{premiseBy, Makes}
 use Rattle.sequent.proofs.Goods.{premises-made, few, makes-next, premise-asks, made-is, made-good, made-stores, made-clear}
 use Rattle.prover.proofs.Runs.{answered, closings-small, Ahead, ahead-starts, ahead-goes, ahead-stops, ahead-ends}
 use Rattle.prover.proofs.reduce.Reads as reduce

@@ -1,8 +1,8 @@
 -- The writer's recursion meets its contracts: the connectives of the running sequent fall from a sequent to its premises.
 -- Assumes nothing.
 use mathlib.Core.Path.{_≡_, sym, ap, _∙_, subst}
-use mathlib.Core.List.{List, [], _∷_, map}
-use Prim.Native.Nat.{ℕ, _+_, _-_, _*_, _^_, _≤_, _<_}
+use mathlib.Core.List.{List, [], _∷_}
+use Prim.Native.Nat.{ℕ, _+_, _-_, _*_, _^_, _<_}
 use native.Mathlib.Omega.{arith}
 use lib.ListN.{length}
 use lib.Seq.{sets}
@@ -10,19 +10,18 @@ use borrow.Author.Needs.{needs}
 use borrow.Fn.Kinds.{In}
 use borrow.Fn.PlainCycle.{Measures, is, falls, and}
 use Rattle.calculus.specs.declared.Side.the-variants.{Left}
-use Rattle.calculus.specs.Fold.{fold, SUM, Each}
+use Rattle.calculus.specs.Fold.{Each}
 use Rattle.calculus.specs.Limits.{LETTERS}
-use Rattle.calculus.specs.Syntax.{Sequent, c as connectivesOf, size}
+use Rattle.calculus.specs.Syntax.{Sequent, c as connectivesOf}
 use Rattle.calculus.specs.Derivation.{REDUCE, orderCode, derivation}
 use Rattle.calculus.specs.Tree.{tree, isClosed, isDue, inner}
 use Rattle.question.proofs.Readers.{connective-range}
 use Rattle.sequent.specs.declared.Reduction.{Reduction}
-use Rattle.sequent.specs.Rule.{placings}
 use Rattle.sequent.specs.View.{view, sequentOf}
 use Rattle.sequent.specs.Compounds.{compoundAt, premisesAt, premiseBy, Makes}
 use Rattle.sequent.proofs.Goods.{masks-state, premises-made, few, command-made, place-small, makes-next, premise-asks, made-is, made-good, made-stores, made-clear}
 use Rattle.prover.specs.Inner.{ReadyAt}
-use Rattle.writer.specs.Emits.{Provable, derivations, Emits}
+use Rattle.writer.specs.Emits.{Provable, derivations}
 use Rattle.writer.proofs.Writes.{derivation-closed, closed-small, no-other, premises-provable, derivation-due, sets-behind, Ahead, ahead-starts, next-provable, next-room, ahead-goes, ahead-ends}
 use Rattle.writer.proofs.emit.Reads as emit
 use Rattle.writer.proofs.emit.Kinds as emit-kinds
