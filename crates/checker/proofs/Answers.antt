@@ -17,8 +17,6 @@ use Rattle.calculus.proofs.Derivations.{passes-true, passes-exactly}
 use Rattle.calculus.proofs.Readings.{accepted-question, within-room}
 use Rattle.question.specs.declared.Refusal.{Refusal}
 use Rattle.question.specs.Answers.{numberOf, placeOf}
-use Rattle.sequent.specs.declared.Running.{Running}
-use Rattle.sequent.specs.View.{sequentOf}
 use Rattle.checker.specs.declared.Fault.{Fault}
 use Rattle.checker.specs.declared.Fault.the-variants.{BytesAfter}
 use Rattle.checker.specs.declared.Checking.{Checking}
@@ -28,8 +26,8 @@ use Rattle.checker.specs.Answers.{faultNumber, faultPlace, checkOf}
 use Rattle.checker.specs.Walks.{Roomy, Walks}
 
 -- An accepted question leaves room.
-pub question-roomy : (q : List ℕ) (s : Running) → reading q ≡ accepted → sequentOf q s ≡ question q → Roomy (sequentOf q s)
-question-roomy q s e h = omega (arith, within-room (question q) (accepted-question q e .0), ap c h, ap size h)
+pub question-roomy : (q : List ℕ) (S : Sequent) → reading q ≡ accepted → S ≡ question q → Roomy S
+question-roomy q S e h = omega (arith, within-room (question q) (accepted-question q e .0), ap c h, ap size h)
 
 -- Where the reply is that the derivation passes, the question is accepted and the derivation passes.
 pass-reply : (q d : List ℕ) → checkOf Passes ≡ checkReply q d → (reading q ≡ accepted) × (checking (question q) d ≡ passes)
@@ -61,17 +59,17 @@ answered q d a e =
 pub answer-refused : (q d : List ℕ) (r : Refusal) → refused (numberOf r) (placeOf r) ≡ reading q → Answered q d (Refused r)
 answer-refused q d r e = answered q d (Refused r) (ap (λ (x : Reading). ifRead x (checkedReply (checking (question q) d))) e)
 
-module _ (q d : List ℕ) (e : reading q ≡ accepted) (s : Running) (h : sequentOf q s ≡ question q) where
+module _ (q d : List ℕ) (e : reading q ≡ accepted) (S : Sequent) (h : S ≡ question q) where
   replied : (k : Checked) → checking (question q) d ≡ k → checkedReply k ≡ checkReply q d
   replied k j = sym (rw (e, j))
 
-  pub answer-faulty : (f : Fault) → Walks d (sequentOf q s ∷ []) 0 (Stopped f) → Answered q d (Faulty f)
-  answer-faulty f w = answered q d (Faulty f) (replied (faulty (faultNumber f) (faultPlace f)) (subst (λ (S : Sequent). Walks d (S ∷ []) 0 (Stopped f)) h w []))
+  pub answer-faulty : (f : Fault) → Walks d (S ∷ []) 0 (Stopped f) → Answered q d (Faulty f)
+  answer-faulty f w = answered q d (Faulty f) (replied (faulty (faultNumber f) (faultPlace f)) (subst (λ (R : Sequent). Walks d (R ∷ []) 0 (Stopped f)) h w []))
 
-  ended : (n : ℕ) → Walks d (sequentOf q s ∷ []) 0 (To n) → checking (question q) d ≡ check (drop n d) [] n
-  ended n w = subst (λ (S : Sequent). Walks d (S ∷ []) 0 (To n)) h w .1 []
+  ended : (n : ℕ) → Walks d (S ∷ []) 0 (To n) → checking (question q) d ≡ check (drop n d) [] n
+  ended n w = subst (λ (R : Sequent). Walks d (R ∷ []) 0 (To n)) h w .1 []
 
-  pub answer-after : (n : ℕ) → Walks d (sequentOf q s ∷ []) 0 (To n) → n < length d → Answered q d (Faulty (BytesAfter n))
+  pub answer-after : (n : ℕ) → Walks d (S ∷ []) 0 (To n) → n < length d → Answered q d (Faulty (BytesAfter n))
   answer-after n w l = answered q d (Faulty (BytesAfter n)) (replied (faulty BYTES-AFTER n) (ended n w ∙ go (drop n d) (omega (arith, length-drop n d))))
     where
       go : (bs : List ℕ) → 1 ≤ length bs → check bs [] n ≡ faulty BYTES-AFTER n
@@ -79,5 +77,5 @@ module _ (q d : List ℕ) (e : reading q ≡ accepted) (s : Running) (h : sequen
       go (b ∷ []) k = refl
       go (b ∷ i ∷ bs) k = refl
 
-  pub answer-passes : (n : ℕ) → Walks d (sequentOf q s ∷ []) 0 (To n) → length d ≤ n → Answered q d Passes
+  pub answer-passes : (n : ℕ) → Walks d (S ∷ []) 0 (To n) → length d ≤ n → Answered q d Passes
   answer-passes n w l = answered q d Passes (replied passes (ended n w ∙ ap (λ (bs : List ℕ). check bs [] n) (drop-of-length-le d {i = n} l)))

@@ -1,35 +1,33 @@
--- The walk over a derivation: one command, then the premises; and what a premise needs.
+-- The walk over a derivation: one command, then the premises one after the other.
 -- Assumes nothing.
 use mathlib.Core.Path.{_≡_, refl, sym, ap, _∙_, subst}
-use mathlib.Core.Option.{some}
-use mathlib.Core.List.{List, [], _∷_, _++_}
-use Prim.Native.Nat.{ℕ, suc, _+_, _-_, _≤_, _<_}
+use mathlib.Core.List.{List, [], _∷_, _++_, map}
+use Prim.Native.Nat.{ℕ, zero, suc, _+_, _-_, _≤_, _<_}
 use native.Mathlib.Omega.{arith}
-use lib.ListN.{length, drop, getD, length-take, length-drop}
+use lib.ListN.{length, take, drop, getD, length-drop, take-append-drop}
 use lib.Seq.{drop-cons}
-use borrow.Author.Tests.{eq-eqb, ne-eqb}
-use Rattle.calculus.specs.declared.Side.{Side}
-use Rattle.calculus.specs.Fold.{Each}
+use Rattle.calculus.specs.Fold.{Each, fold, SUM}
 use Rattle.calculus.specs.Limits.{ROOM, CUT-SHORT}
-use Rattle.calculus.specs.Syntax.{Formula, Sequent, c, size}
-use Rattle.calculus.specs.Table.{premise}
+use Rattle.calculus.specs.Syntax.{Sequent, size}
 use Rattle.calculus.specs.Derivation.{Move as Result, fault, waiting, obey, order, faulty, proceed, check}
-use Rattle.calculus.proofs.Sequents.{Due, weight-size, Smaller, smaller}
-use Rattle.sequent.specs.declared.Running.{Running}
+use Rattle.calculus.proofs.Folds.{fold-append}
 use Rattle.sequent.specs.declared.Placing.{Placing}
-use Rattle.sequent.specs.View.{lane, countOf, places, sequentOf, Compounds}
-use Rattle.sequent.specs.Rule.{placed}
-use Rattle.reduction.specs.declared.Reduction.{Reduction}
-use Rattle.sequent.specs.Compounds.{compoundAt}
-use Rattle.reduction.specs.Reduction.{premiseBy, Reduces}
-use Rattle.reduction.proofs.Reductions.{premisesWith, premises-rule, premise-stands, placed-size}
+use Rattle.sequent.specs.declared.Rule.{Rule}
+use Rattle.sequent.specs.declared.Running.{Running}
+use Rattle.sequent.specs.declared.Reduction.{Reduction}
+use Rattle.sequent.specs.Rule.{placings}
+use Rattle.sequent.specs.View.{view, sequentOf, Good}
+use Rattle.sequent.specs.Compounds.{compoundAt, premiseBy, Reducible}
+use Rattle.sequent.proofs.Lists.{each-unmap}
+use Rattle.sequent.proofs.Placings.{OneOrTwo, Next, next-ends, next-each, Summed, sum-starts, sum-goes, sum-ends}
+use Rattle.sequent.proofs.Goods.{stands, premises-made, few}
 use Rattle.checker.specs.declared.Fault.{Fault}
 use Rattle.checker.specs.declared.Fault.the-variants.{CutShort}
 use Rattle.checker.specs.declared.Walked.{Walked}
 use Rattle.checker.specs.declared.Walked.the-variants.{To, Stopped}
 use Rattle.checker.specs.Answers.{faultNumber, faultPlace}
-use Rattle.checker.specs.Walks.{positionAt, Compounded, premisesAt, Reducing, Roomy, Walks}
-use Rattle.checker.proofs.Commands.{there}
+use Rattle.checker.specs.Walks.{Roomy, Walks, Tallied}
+use Rattle.checker.proofs.Commands.{roomy-premises}
 
 -- ---- one command
 
@@ -64,82 +62,62 @@ module _ (d : List ℕ) (at : ℕ) (more : at + 2 ≤ length d) (S : Sequent) wh
   walk-reduced Qs e (To n) h = (h .0, λ Ps. by-result (waiting Qs) e Ps ∙ h .1 Ps)
   walk-reduced Qs e (Stopped f) h = λ Ps. by-result (waiting Qs) e Ps ∙ h Ps
 
--- ---- two premises
+-- ---- premises ahead
 
-pub walk-both : (d : List ℕ) (P R : Sequent) (at e : ℕ) → Walks d (P ∷ []) at (To e) → (w : Walked) → Walks d (R ∷ []) e w → Walks d (P ∷ R ∷ []) at w
-walk-both d P R at e h (To n) k = (k .0, λ Ps. h .1 (R ∷ Ps) ∙ k .1 Ps)
-walk-both d P R at e h (Stopped f) k = λ Ps. h .1 (R ∷ Ps) ∙ k Ps
+drop-map : {X Y : Type 0} (f : X → Y) (j : ℕ) (xs : List X) → drop j (map f xs) ≡ map f (drop j xs)
+drop-map f zero xs = refl
+drop-map f (suc j) [] = refl
+drop-map f (suc j) (x ∷ xs) = drop-map f j xs
 
-pub walk-first : (d : List ℕ) (P R : Sequent) (at : ℕ) (f : Fault) → Walks d (P ∷ []) at (Stopped f) → Walks d (P ∷ R ∷ []) at (Stopped f)
-walk-first d P R at f h = λ Ps. h (R ∷ Ps)
+-- the stores of the first j premises and of the others
+stores-split : (j : ℕ) (Ps : List Sequent) → fold SUM size (take j Ps) + fold SUM size (drop j Ps) ≡ fold SUM size Ps
+stores-split j Ps = sym (fold-append SUM size (take j Ps) (drop j Ps)) ∙ ap (fold SUM size) (take-append-drop j Ps)
 
--- ---- premises of the running sequent
+-- j premises are walked from byte o to byte e, n places were stored for them, and p is the next placing
+pub record Ahead (d : List ℕ) (F : Placing → Sequent) (r : Rule) (o j e n : ℕ) (p : Placing) : Type 0 where
+  pub sum : Summed F r j n p
+  pub inside : e ≤ length d
+  pub walks : (Rs : List Sequent) → check (drop o d) (map F (placings r) ++ Rs) o ≡ check (drop e d) (map F (drop j (placings r)) ++ Rs) e
 
--- The running sequent s stands for P, which is smaller than S.
-pub record Waits (q : List ℕ) (S P : Sequent) (s : Running) : Type 0 where
-  pub stands : sequentOf q s ≡ P
-  pub fewer : c (sequentOf q s) < c S
-  pub roomy : Roomy (sequentOf q s)
+module _ (d : List ℕ) (F : Placing → Sequent) (r : Rule) (count : OneOrTwo r) (o : ℕ) where
+  pub ahead-starts : o ≤ length d → Ahead d F r o 0 o 0 (r .first)
+  ahead-starts h = record { sum = sum-starts F r count; inside = h; walks = λ Rs. refl }
 
-module _ (q : List ℕ) (s : Running) (t : Side) (i : ℕ) (r : Reduction) (h : Reducing q s t i r) (roomy : Roomy (sequentOf q s)) where
-  due : Due (sequentOf q s) t i (compoundAt q (positionAt s t i))
-  due = there q s t i (h .there .inside) ∙ ap (λ (y : Formula). some y) (h .there .compound)
+  module _ (j e n : ℕ) (p : Placing) (a : Ahead d F r o j e n p) where
+    module _ (h : j < r .premises) where
+      walks-next : (Rs : List Sequent) → check (drop o d) (map F (placings r) ++ Rs) o ≡ check (drop e d) (F p ∷ map F (drop (j + 1) (placings r)) ++ Rs) e
+      walks-next Rs = a .walks Rs ∙ ap (λ (ps : List Placing). check (drop e d) (map F ps ++ Rs) e) (a .sum .next .next h)
 
-  by-rule : premisesAt q s t i ≡ premisesWith t i (sequentOf q s) (compoundAt q (positionAt s t i)) (r .rule)
-  by-rule = premises-rule q (positionAt s t i) t r (h .reduces) i (sequentOf q s)
+      pub ahead-goes : (e′ k : ℕ) → Walks d (F p ∷ []) e (To e′) → k ≡ size (F p) → size (F p) ≤ ROOM → Ahead d F r o (j + 1) e′ (n + k) (r .second)
+      ahead-goes e′ k w m l =
+          record {
+            sum = sum-goes F r count j n p (a .sum) h k m l;
+            inside = w .0;
+            walks = λ Rs. walks-next Rs ∙ w .1 (map F (drop (j + 1) (placings r)) ++ Rs);
+          }
 
-  smalls : Each (Smaller (sequentOf q s)) (premisesWith t i (sequentOf q s) (compoundAt q (positionAt s t i)) (r .rule))
-  smalls = subst (Each (Smaller (sequentOf q s))) by-rule (smaller t i (compoundAt q (positionAt s t i)) (sequentOf q s) due)
+      pub ahead-stops : (f : Fault) (k : ℕ) → Walks d (F p ∷ []) e (Stopped f) → k ≡ size (F p) → size (F p) ≤ ROOM → Tallied d (map F (placings r)) o (record { walked = Stopped f; stores = n + k })
+      ahead-stops f k w m l =
+          record {
+            walks = λ Rs. walks-next Rs ∙ w (map F (drop (j + 1) (placings r)) ++ Rs);
+            stores = (
+              j + 1,
+              omega arith,
+              omega (arith, sum-goes F r count j n p (a .sum) h k m l .stores, stores-split (j + 1) (map F (placings r)), ap (fold SUM size) (drop-map F (j + 1) (placings r))),
+            );
+          }
 
-  abbrev pub premiseAt : Placing → Sequent
-  premiseAt p = premiseBy t i (sequentOf q s) (compoundAt q (positionAt s t i)) p
+    pub ahead-ends : r .premises ≤ j → Tallied d (map F (placings r)) o (record { walked = To e; stores = n })
+    ahead-ends h =
+        record {
+          walks = (a .inside, λ Rs. a .walks Rs ∙ ap (λ (ps : List Placing). check (drop e d) (map F ps ++ Rs) e) (next-ends r count j h));
+          stores = sum-ends F r count j n p (a .sum) h;
+        }
 
-  pub first-smaller : Smaller (sequentOf q s) (premiseAt (r .rule .first))
-  first-smaller = smalls .0
-
-  pub second-smaller : r .rule .premises ≡ 2 → Smaller (sequentOf q s) (premiseAt (r .rule .second))
-  second-smaller e = rw (eq-eqb (r .rule .premises) 2 e) at (smalls .1) .0
-
-  pub one-premise : (r .rule .premises ≡ 2 → ⊥) → premisesAt q s t i ≡ premiseAt (r .rule .first) ∷ []
-  one-premise n = by-rule ∙ rw (ne-eqb (r .rule .premises) 2 n)
-
-  pub two-premises : r .rule .premises ≡ 2 → premisesAt q s t i ≡ premiseAt (r .rule .first) ∷ premiseAt (r .rule .second) ∷ []
-  two-premises e = by-rule ∙ rw (eq-eqb (r .rule .premises) 2 e)
-
-  pub compounds : Compounds q t i s
-  compounds = record { inside = omega (arith, h .there .inside, length-take (countOf t s) (lane t (s .items))); compound = (compoundAt q (positionAt s t i), h .there .compound) }
-
-  module _ (p : Placing) (l : Smaller (sequentOf q s) (premiseAt p)) where
-    pub fits : size (premise t i (places s) (placed p (r .f) (r .g))) ≤ ROOM
-    fits =
-        rw (placed-size q s t i p (r .f) (r .g) (compoundAt q (positionAt s t i)) (h .there .inside))
-        (omega (arith, l .1, weight-size (sequentOf q s), weight-size (premiseAt p)))
-
-    pub waits : (u : Running) → places u ≡ premise t i (places s) (placed p (r .f) (r .g)) → Waits q (sequentOf q s) (premiseAt p) u
-    waits u e =
-        let d : sequentOf q u ≡ premiseAt p = premise-stands q s u t i p (r .f) (r .g) (compoundAt q (positionAt s t i)) (h .reduces .first) (h .reduces .second) e in
-        let k : c (sequentOf q u) ≡ c (premiseAt p) = ap c d in
-        let n : size (sequentOf q u) ≡ size (premiseAt p) = ap size d in
-        record { stands = d; fewer = omega (arith, l .0); roomy = omega (arith, l .1, weight-size (sequentOf q s), weight-size (premiseAt p)) }
-
-  module _ (d : List ℕ) (at : ℕ) (u : Running) (k : Waits q (sequentOf q s) (premiseAt (r .rule .first)) u) where
-    pub walk-one : (r .rule .premises ≡ 2 → ⊥) → (w : Walked) → Walks d (sequentOf q u ∷ []) at w → Walks d (premisesAt q s t i) at w
-    walk-one n w j =
-        subst (λ (Ps : List Sequent). Walks d Ps at w) (sym (one-premise n)) (subst (λ (P : Sequent). Walks d (P ∷ []) at w) (k .stands) j)
-
-    pub walk-two : (e : r .rule .premises ≡ 2) (n : ℕ) → Walks d (sequentOf q u ∷ []) at (To n) → (v : Running) → Waits q (sequentOf q s) (premiseAt (r .rule .second)) v
-        → (w : Walked) → Walks d (sequentOf q v ∷ []) n w → Walks d (premisesAt q s t i) at w
-    walk-two e n j v m w o =
-        subst (λ (Ps : List Sequent). Walks d Ps at w) (sym (two-premises e))
-        (walk-both d (premiseAt (r .rule .first)) (premiseAt (r .rule .second)) at n
-        (subst (λ (P : Sequent). Walks d (P ∷ []) at (To n)) (k .stands) j) w
-        (subst (λ (P : Sequent). Walks d (P ∷ []) n w) (m .stands) o))
-
-    pub walk-one-stopped : r .rule .premises ≡ 2 → (f : Fault) → Walks d (sequentOf q u ∷ []) at (Stopped f) → Walks d (premisesAt q s t i) at (Stopped f)
-    walk-one-stopped e f j =
-        subst (λ (Ps : List Sequent). Walks d Ps at (Stopped f)) (sym (two-premises e))
-        (walk-first d (premiseAt (r .rule .first)) (premiseAt (r .rule .second)) at f (subst (λ (P : Sequent). Walks d (P ∷ []) at (Stopped f)) (k .stands) j))
-
--- The formula found at position p reduces.
-pub reducing : (q : List ℕ) (s : Running) (t : Side) (i p : ℕ) (r : Reduction) → p ≡ positionAt s t i → Compounded q s t i → Reduces q p t r → Reducing q s t i r
-reducing q s t i p r e h k = record { there = h; reduces = subst (λ (n : ℕ). Reduces q n t r) e k }
+-- the next premise leaves room again
+pub roomy-next : (T items : List ℕ) (s : Running) (good : Good T items s) → Roomy (sequentOf T items s) → (r : Reduction) (can : Reducible T items s r)
+    → (j : ℕ) (p : Placing) → Next (r .rule) j p → j < r .rule .premises → Roomy (premiseBy T items s r p)
+roomy-next T items s good roomy r can =
+    next-each (r .rule) (few T items s good r can) (λ p. Roomy (premiseBy T items s r p))
+    (each-unmap (premiseBy T items s r) Roomy (placings (r .rule)) (subst (Each Roomy) (sym (premises-made T items s good r can))
+    (roomy-premises (r .side) (r .at) (compoundAt T (r .side) (r .at) (view s items)) (sequentOf T items s) (stands T items s good (r .side) (r .at) (can .inside) (can .compound)) roomy)))

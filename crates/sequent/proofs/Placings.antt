@@ -1,16 +1,17 @@
 -- A loop over the premises of a rule: the placing that comes next, and what is left.
 -- Assumes nothing.
-use mathlib.Core.Path.{_≡_, refl}
+use mathlib.Core.Path.{_≡_, refl, ap}
 use mathlib.Core.Bool.{Bool, true, false}
-use mathlib.Core.List.{List, [], _∷_}
-use Prim.Native.Nat.{ℕ, zero, suc, _+_, _≤_, _<_}
+use mathlib.Core.List.{List, [], _∷_, map}
+use Prim.Native.Nat.{ℕ, zero, suc, _+_, _*_, _≤_, _<_}
 use native.Mathlib.Omega.{arith}
 use lib.Dec.{eqb}
 use lib.ListN.{length, drop, drop-of-length-le}
 use borrow.Author.Tests.{eqb-true, eqb-false, eq-eqb}
 use Rattle.calculus.specs.declared.Side.{Side}
-use Rattle.calculus.specs.Fold.{Each, choose}
-use Rattle.calculus.specs.Syntax.{Connective}
+use Rattle.calculus.specs.Fold.{fold, SUM, Each, choose}
+use Rattle.calculus.specs.Limits.{ROOM}
+use Rattle.calculus.specs.Syntax.{Connective, Sequent, size}
 use Rattle.sequent.specs.declared.Placing.{Placing}
 use Rattle.sequent.specs.declared.Rule.{Rule}
 use Rattle.sequent.specs.Rule.{ruleOf, placings}
@@ -74,3 +75,27 @@ module _ (r : Rule) (few : OneOrTwo r) where
   -- what holds of each placing holds of the next
   pub next-each : (Q : Placing → Type 0) → Each Q (placings r) → (j : ℕ) (p : Placing) → Next r j p → j < r .premises → Q p
   next-each Q h j p n k = rw (n .next k) at (each-drop Q j (placings r) h) .0
+
+-- ---- the stores of the premises made so far
+
+-- after j premises n places are stored, and p is the next placing
+pub record Summed (F : Placing → Sequent) (r : Rule) (j n : ℕ) (p : Placing) : Type 0 where
+  pub next : Next r j p
+  pub stores : n + fold SUM size (map F (drop j (placings r))) ≡ fold SUM size (map F (placings r))
+  pub small : n ≤ ROOM * j
+
+module _ (F : Placing → Sequent) (r : Rule) (few : OneOrTwo r) where
+  pub sum-starts : Summed F r 0 0 (r .first)
+  sum-starts = record { next = next-starts r few; stores = omega arith; small = omega arith }
+
+  module _ (j n : ℕ) (p : Placing) (t : Summed F r j n p) where
+    pub sum-goes : j < r .premises → (m : ℕ) → m ≡ size (F p) → size (F p) ≤ ROOM → Summed F r (j + 1) (n + m) (r .second)
+    sum-goes h m e k =
+        record {
+          next = next-goes r few j p (t .next) h;
+          stores = omega (arith, t .stores, e, ap (λ (ps : List Placing). fold SUM size (map F ps)) (t .next .next h));
+          small = omega (arith, t .small, e);
+        }
+
+    pub sum-ends : r .premises ≤ j → n ≡ fold SUM size (map F (placings r))
+    sum-ends h = omega (arith, t .stores, ap (λ (ps : List Placing). fold SUM size (map F ps)) (next-ends r few j h))

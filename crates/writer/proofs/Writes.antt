@@ -2,7 +2,7 @@
 -- Assumes nothing.
 use mathlib.Core.Path.{_≡_, refl, sym, ap, _∙_, subst}
 use mathlib.Core.List.{List, [], _∷_, _++_, map}
-use Prim.Native.Nat.{ℕ, _+_, _*_, _^_, _≤_, _<_}
+use Prim.Native.Nat.{ℕ, _+_, _^_, _≤_, _<_}
 use native.Mathlib.Numerals.{add-one}
 use native.Mathlib.Omega.{arith}
 use lib.ListN.{length, drop, set, length-append}
@@ -24,7 +24,7 @@ use Rattle.sequent.specs.declared.Placing.{Placing}
 use Rattle.sequent.specs.declared.Rule.{Rule}
 use Rattle.sequent.specs.Rule.{placings}
 use Rattle.sequent.proofs.Lists.{each-unmap}
-use Rattle.sequent.proofs.Placings.{OneOrTwo, Next, next-starts, next-goes, next-ends, next-each}
+use Rattle.sequent.proofs.Placings.{OneOrTwo, next-ends, next-each, Summed, sum-starts, sum-goes, sum-ends}
 use Rattle.prover.specs.declared.Finding.{Finding}
 use Rattle.prover.specs.declared.Finding.the-variants.{Closed, Open, Full as FullFound, Spent as SpentFound, Reduce}
 use Rattle.prover.specs.Inner.{innerOf}
@@ -126,24 +126,22 @@ sets-behind l at a b ds = sets-append l at (a ∷ b ∷ []) ds
 
 -- j premises are written, up to `end`, with n stores, and p is the next placing
 pub record Ahead (F : Placing → Sequent) (r : Rule) (old : List ℕ) (at j end n : ℕ) (new : List ℕ) (p : Placing) : Type 0 where
-  pub next : Next r j p
+  pub sum : Summed F r j n p
   pub place : end + length (derivations (map F (drop j (placings r)))) ≡ at + length (derivations (map F (placings r)))
   pub bytes : sets new end (derivations (map F (drop j (placings r)))) ≡ sets old at (derivations (map F (placings r)))
   pub long : length new ≡ length old
-  pub stores : n + fold SUM size (map F (drop j (placings r))) ≡ fold SUM size (map F (placings r))
-  pub small : n ≤ ROOM * j
 
 module _ (F : Placing → Sequent) (r : Rule) (count : OneOrTwo r) (old : List ℕ) (at : ℕ) where
   pub ahead-starts : Ahead F r old at 0 at 0 old (r .first)
-  ahead-starts = record { next = next-starts r count; place = refl; bytes = refl; long = refl; stores = omega arith; small = omega arith }
+  ahead-starts = record { sum = sum-starts F r count; place = refl; bytes = refl; long = refl }
 
   module _ (j end n : ℕ) (new : List ℕ) (p : Placing) (a : Ahead F r old at j end n new p) where
     pub next-provable : Each Provable (map F (placings r)) → j < r .premises → Provable (F p)
-    next-provable h k = next-each r count (λ p. Provable (F p)) (each-unmap F Provable (placings r) h) j p (a .next) k
+    next-provable h k = next-each r count (λ p. Provable (F p)) (each-unmap F Provable (placings r) h) j p (a .sum .next) k
 
     module _ (h : j < r .premises) where
       ahead-bytes : derivations (map F (drop j (placings r))) ≡ derivation (F p) ++ derivations (map F (drop (j + 1) (placings r)))
-      ahead-bytes = ap (λ (ps : List Placing). derivations (map F ps)) (a .next .next h)
+      ahead-bytes = ap (λ (ps : List Placing). derivations (map F ps)) (a .sum .next .next h)
 
       pub next-room : at + length (derivations (map F (placings r))) ≤ length old → end + length (derivation (F p)) ≤ length new
       next-room k = omega (arith, a .place, a .long, ap length ahead-bytes, length-append (derivation (F p)) (derivations (map F (drop (j + 1) (placings r)))))
@@ -153,13 +151,11 @@ module _ (F : Placing → Sequent) (r : Rule) (count : OneOrTwo r) (old : List �
       ahead-goes e last w k =
           let rest = derivations (map F (drop (j + 1) (placings r))) in
           record {
-            next = next-goes r count j p (a .next) h;
+            sum = sum-goes F r count j n p (a .sum) h (e .stores) (w .stores) k;
             place = omega (arith, a .place, w .end, ap length ahead-bytes, length-append (derivation (F p)) rest);
             bytes = ap (λ (i : ℕ). sets last i rest) (w .end) ∙ ap (λ (l : List ℕ). sets l (end + length (derivation (F p))) rest) (w .written) ∙ sets-append new end (derivation (F p)) rest
                 ∙ ap (sets new end) (sym ahead-bytes) ∙ a .bytes;
             long = ap length (w .written) ∙ length-sets new end (derivation (F p)) ∙ a .long;
-            stores = omega (arith, a .stores, w .stores, ap (λ (ps : List Placing). fold SUM size (map F ps)) (a .next .next h));
-            small = omega (arith, a .small, w .stores);
           }
 
     pub ahead-ends : r .premises ≤ j → Emits (derivations (map F (placings r))) (fold SUM size (map F (placings r))) at old new (record { end = end; stores = n })
@@ -168,5 +164,5 @@ module _ (F : Placing → Sequent) (r : Rule) (count : OneOrTwo r) (old : List �
         record {
           end = omega (arith, a .place, ap (λ (ps : List Placing). length (derivations (map F ps))) e);
           written = sym (ap (λ (ps : List Placing). sets new end (derivations (map F ps))) e) ∙ a .bytes;
-          stores = omega (arith, a .stores, ap (λ (ps : List Placing). fold SUM size (map F ps)) e);
+          stores = sum-ends F r count j n p (a .sum) h;
         }

@@ -1,37 +1,32 @@
 -- `checker::formula_named` meets its contract.
 -- Assumes nothing.
 use mathlib.Core.Path.{_≡_, sym, _∙_}
-use Prim.Native.Nat.{_<_}
+use Prim.Native.Nat.{_≤_, _<_}
 use native.Mathlib.Omega.{arith}
-use lib.ListN.{length, getD}
+use lib.ListN.{getD}
 use borrow.Author.Needs.{needs}
-use Rattle.calculus.specs.Limits.{ROOM}
-use Rattle.question.proofs.Walks.{well-inside}
-use Rattle.sequent.specs.View.{countOf}
-use Rattle.checker.specs.Walks.{positionAt}
-use Rattle.checker.proofs.Commands.{in-room, position, stands, no-formula, other-connective, reduces}
+use Rattle.calculus.specs.Limits.{LETTERS}
+use Rattle.sequent.specs.View.{view, countOf, nameAt}
+use Rattle.sequent.proofs.Goods.{slot-name}
+use Rattle.checker.proofs.Commands.{no-formula, a-letter, other-connective, reduces}
 use Rattle.checker.proofs.formula_named.Statement.{statement}
 use Rattle.checker.proofs.formula_named.Tie as tie
 
-room : (c : tie.Start) → length (c .args .t2 .items) ≡ ROOM
-room c = search needs
+-- the place is inside its side
+inside : (c : tie.Else1) → let a = c .before .before .before .args in c .before .before .wide .result < countOf (a .side) (a .s)
+inside c = omega (arith, c .before .count .ensures)
 
-inside : (c : tie.Else1) → let a = c .before .before .before .before .args in a .place < countOf (a .side) (a .t2)
-inside c = omega (arith, c .before .count .ensures, c .before .before .wide .ensures)
-
-position-now : (c : tie.After-slot) →
-    let a = c .before .before .before .before .before .args in
-    getD (a .t2 .items) (c .slot .result) 0 ≡ positionAt (a .t2) (a .side) (a .place)
-position-now c =
-    let s = c .before .before .before .before .before in
+-- the name read is the one at the place
+name-now : (c : tie.After-slot) → let a = c .before .before .before .before .args in
+    getD (a .items .now) (c .slot .result) 0 ≡ nameAt (a .side) (c .before .before .before .wide .result) (view (a .s) (a .items .now))
+name-now c =
+    let s = c .before .before .before .before in
     let a = s .args in
-    rw (c .slot .ensures .0, c .before .before .before .wide .ensures) (position (a .q .now) (a .t2) (s .pre) (room s) (a .side) (a .place) 0 (inside (c .before)))
+    rw (c .slot .ensures .0) (slot-name (a .nodes .now) (a .items .now) (a .s) (s .pre .0) (a .side) (c .before .before .before .wide .result) (inside (c .before)))
 
--- The position whose byte is read is the one that stands at the place.
-read-now : (c : tie.After-wide2) →
-    let a = c .before .before .before .before .before .before .before .args in
-    c .wide2 .result ≡ positionAt (a .t2) (a .side) (a .place)
-read-now c = c .wide2 .ensures ∙ position-now (c .before .before)
+compound-now : (c : tie.Else2) → let a = c .before .before .before .before .before .before .args in
+    LETTERS ≤ nameAt (a .side) (c .before .before .before .before .before .wide .result) (view (a .s) (a .items .now))
+compound-now c = omega (arith, c .if2 .left, name-now (c .before .before))
 
 pub formula-named-spec : {M : Type 1} → statement M
 formula-named-spec =
@@ -40,28 +35,27 @@ formula-named-spec =
     (λ c κs. search needs)
     (λ c κs. search needs)
     (λ c k e.
-    let s = c .before .before .before .before in
+    let s = c .before .before .before in
     let a = s .args in
-    no-formula (a .q .now) (a .t2) (s .pre) (room s) (a .side) (a .place) (a .at) (omega (arith, c .before .count .ensures, c .before .before .wide .ensures)) k)
-    (λ c κs.
-    let s = c .before .before .before .before in
+    let i = c .before .before .wide in
+    no-formula (a .nodes .now) (a .items .now) (a .s) (s .pre .0) (a .side) (i .result) (a .place) (a .at) (i .ensures) (omega (arith, c .if1 .taken, c .before .count .ensures)) k)
+    (λ c κs. (inside c, c .before .before .before .pre .0 .room))
+    (λ c. c .slot .ensures .1)
+    (λ c k e.
+    let s = c .before .before .before .before .before .before in
     let a = s .args in
-    rw (c .before .before .wide .ensures) (in-room (a .q .now) (a .t2) (s .pre) (room s) (a .side) (a .place) 0 (inside c)))
-    (λ c. search needs)
-    (λ c κs. search needs)
-    (λ c.
-    let s = c .before .before .before .before .before .before .before .before in
-    let a = s .args in
-    let there = stands (a .q .now) (a .t2) (s .pre) (room s) (a .side) (a .place) 0 (inside (c .before .before .before .before)) in
-    rw (read-now (c .before)) (omega (arith, well-inside (a .q .now) (positionAt (a .t2) (a .side) (a .place)) (there .well))))
+    let i = c .before .before .before .before .before .wide in
+    a-letter (a .nodes .now) (a .items .now) (a .s) (s .pre .0) (a .side) (i .result) (a .place) (a .at) (i .ensures) (inside (c .before .before .before)) k (omega (arith, c .if2 .taken, name-now (c .before .before))))
+    (λ c κs. (c .before .before .before .before .before .before .pre .0, inside (c .before .before .before), compound-now c))
     (λ c k e.
     let s = c .before .before .before .before .before .before .before .before .before in
     let a = s .args in
-    let there = inside (c .before .before .before .before .before) in
-    other-connective (a .q .now) (a .t2) (s .pre) (room s) (a .side) (a .place) (a .at) there k (λ d. c .if2 .taken (rw (read-now (c .before .before)) (d ∙ e))))
+    let i = c .before .before .before .before .before .before .before .before .wide in
+    let u = c .before .before in
+    other-connective (a .nodes .now) (a .items .now) (a .s) (s .pre .0) (a .side) (i .result) (a .place) (a .at) (i .ensures) (inside (u .before .before .before .before)) k (compound-now (u .before)) (u .reduction .result) (u .reduction .ensures) (λ d. c .if3 .taken (d ∙ e)))
     (λ c k e.
     let s = c .before .before .before .before .before .before .before .before .before in
     let a = s .args in
-    let same = rw (read-now (c .before .before)) at (c .if2 .left) in
-    let there = inside (c .before .before .before .before .before) in
-    reduces (a .q .now) (a .t2) (s .pre) (room s) (a .side) (a .place) (a .at) there k (same ∙ sym e) _ (position-now (c .before .before .before .before))))
+    let i = c .before .before .before .before .before .before .before .before .wide in
+    let u = c .before .before in
+    reduces (a .nodes .now) (a .items .now) (a .s) (s .pre .0) (a .side) (i .result) (a .place) (a .at) (i .ensures) (inside (u .before .before .before .before)) k (compound-now (u .before)) (u .reduction .result) (u .reduction .ensures) (s .pre .1) (c .if3 .left ∙ sym e)))

@@ -154,7 +154,7 @@ makes-now t c =
     let a = s .args in
     let h = s .pre .1 in
     let l = c .before .loop in
-    makes-next (a .nodes .now) (a .items .now) (a .s) (h .0 .good) (a .r) (h .0 .can) (l .j) (l .p) (l .inv .next) (c .loop-test .taken)
+    makes-next (a .nodes .now) (a .items .now) (a .s) (h .0 .good) (a .r) (h .0 .can) (l .j) (l .p) (l .inv .sum .next) (c .loop-test .taken)
 
 j-small : (t : ℕ) (c : InLoop t) → c .before .loop .j < 2
 j-small t c =
@@ -306,7 +306,7 @@ pub +emit+emit-premise+emit-premises-spec : {M : Type 1} → statement M
         next-room (premiseBy (a .nodes .now) (a .items .now) (a .s) (a .r)) (a .r .rule) (few (a .nodes .now) (a .items .now) (a .s) (h .0 .good) (a .r) (h .0 .can)) (a .buffer .now) (a .at) (l .j) (l .end) (l .stores) (l .buffer) (l .p) (l .inv) taken (omega (arith, h .2, ap (λ (Ps : List Sequent). length (derivations Ps)) all)),
       ),
     ))
-    (λ c. omega (arith, c .before .before .before .emit-premise .ensures .stores, makes-now t (c .before .before .before .before .before) .small, j-small t (c .before .before .before .before .before), c .before .before .before .before .before .before .loop .inv .small))
+    (λ c. omega (arith, c .before .before .before .emit-premise .ensures .stores, makes-now t (c .before .before .before .before .before) .small, j-small t (c .before .before .before .before .before), c .before .before .before .before .before .before .loop .inv .sum .small))
     (λ c. omega (arith, j-small t (c .before .before .before .before .before .before)))
     (λ c. omega (arith, c .before .before .before .before .before .before .loop-test .taken))
     (λ c.
