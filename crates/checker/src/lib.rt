@@ -159,7 +159,7 @@ fn formula_named(
         return Move::Stop(Fault::OtherConnective(at));
     }
     let r = s.reduction(nodes, items, side, i);
-    if r.connective != b {
+    if r.command() != b {
         return Move::Stop(Fault::OtherConnective(at));
     }
     Move::Reduce(r)
@@ -230,9 +230,8 @@ fn walk_premise(
         Walks (now (d .entry)) (premiseBy (now (nodes .entry)) (now (items .entry)) s r p ∷ []) at (u .walked)
         × (u .stores ≡ size (premiseBy (now (nodes .entry)) (now (items .entry)) s r p)) ⌝ }
 {
-    let side = r.side;
     let mut next = [0u8; 80];
-    let made = s.premise(items, &mut next, side, r.at, p, r.f, r.g);
+    let made = s.premise(items, &mut next, r, p);
     let t = made.running;
     let walked = walk(nodes, &next, d, t, at);
     Tally {
@@ -257,7 +256,7 @@ fn walk_premises(
         × (at ≤ length (now d)) ⌝ }
     ensures { λ u. ⌜ Tallied (now (d .entry)) (premisesAt (now (nodes .entry)) (now (items .entry)) s r) at u ⌝ }
 {
-    let rule = r.rule;
+    let rule = r.rule();
     let n = rule.premises;
     let mut p = rule.first;
     let mut end = at;

@@ -4,7 +4,7 @@ use mathlib.Core.Path.{_≡_, refl, sym, ap, _∙_, subst}
 use mathlib.Core.Bool.{Bool, true, false}
 use mathlib.Core.Option.{none, some}
 use mathlib.Core.List.{List, [], _∷_}
-use Prim.Native.Nat.{ℕ, zero, suc, _+_, _≤_, _<_}
+use Prim.Native.Nat.{ℕ, zero, suc, _+_, _%_, _≤_, _<_}
 use native.Mathlib.Omega.{arith}
 use lib.Dec.{ltb}
 use borrow.Author.Tests.{lt-ltb, le-ltb, eq-eqb, ne-eqb, ltb-false}
@@ -12,7 +12,8 @@ use Rattle.calculus.specs.declared.Side.{Side}
 use Rattle.calculus.specs.declared.Side.the-variants.{Left, Right}
 use Rattle.calculus.specs.Fold.{fold, ANY, Each, choose}
 use Rattle.calculus.specs.Limits.{ROOM, LETTERS}
-use Rattle.calculus.specs.Syntax.{Sequent, size}
+use Rattle.calculus.specs.Syntax.{Connective, Sequent, size}
+use Rattle.calculus.specs.Bytes.{CONNECTIVE, code}
 use Rattle.calculus.specs.Table.{premises}
 use Rattle.calculus.specs.Tree.{letters, state, closing, first, due, tests, full, reduced, isClosed, isOpen, isFull, isSpent, isDue, afford, inner}
 use Rattle.calculus.proofs.Folds.{or-false-both}
@@ -22,21 +23,12 @@ use Rattle.sequent.specs.declared.Reduction.{Reduction}
 use Rattle.sequent.specs.declared.Place.the-variants.{At, Nowhere}
 use Rattle.sequent.specs.Rule.{premiseOf, overfullOf}
 use Rattle.sequent.specs.View.{view, countOf, nameAt, sequentOf, Good}
-use Rattle.sequent.specs.Compounds.{Found, compoundAt, reductionAt}
+use Rattle.sequent.specs.Compounds.{Found, compoundAt, ruleFor, reductionAt}
 use Rattle.sequent.proofs.Restarts.{found-inside, found-name}
-use Rattle.sequent.proofs.Goods.{slot-name, full-is, found-left, found-right, found-nowhere}
+use Rattle.sequent.proofs.Goods.{slot-name, compounded, full-is, found-left, found-right, found-nowhere}
 use Rattle.prover.specs.Inner.{ReadyAt}
 
 -- ---- FULL
-
-pub over-first : (r : Rule) (n k : ℕ) → k ≡ size (premiseOf (r .first)) → ROOM + 1 < n + k → true ≡ overfullOf r n
-over-first r n k e h = rw (← e, lt-ltb (ROOM + 1) (n + k) h)
-
-pub over-second : (r : Rule) (n k m : ℕ) → k ≡ size (premiseOf (r .first)) → n + k ≤ ROOM + 1 → r .premises ≡ 2 → m ≡ size (premiseOf (r .second)) → ltb (ROOM + 1) (n + m) ≡ overfullOf r n
-over-second r n k m e h t f = rw (← e, le-ltb (ROOM + 1) (n + k) h, eq-eqb (r .premises) 2 t, ← f)
-
-pub over-not : (r : Rule) (n k : ℕ) → k ≡ size (premiseOf (r .first)) → n + k ≤ ROOM + 1 → (r .premises ≡ 2 → ⊥) → false ≡ overfullOf r n
-over-not r n k e h t = rw (← e, le-ltb (ROOM + 1) (n + k) h, ne-eqb (r .premises) 2 t)
 
 -- no premise is over the room
 each-within : (Ps : List Sequent) → fold ANY (λ P. ltb ROOM (size P)) Ps ≡ false → Each (λ P. size P ≤ ROOM) Ps
@@ -54,7 +46,11 @@ module _ (T items : List ℕ) (s : Running) (good : Good T items s) (t : Side) (
   pub first-name : LETTERS ≤ nameAt t i (view s items)
   first-name = rw (slot-name T items s good t i first-inside) at (found-name s items (good .places) (good .room) t i found)
 
-  module _ (r : Reduction) (e : r ≡ reductionAt T t i (view s items)) (b : Bool) (f : b ≡ overfullOf (r .rule) (s .lefts + s .rights)) (left : ℕ) where
+  pub first-command : (r : Reduction) → r ≡ reductionAt T t i (view s items) → (k : Connective) × (code (CONNECTIVE k) ≡ r .node % 256)
+  first-command r e =
+      (compoundAt T t i (view s items) .connective, sym (ap (λ (u : Reduction). u .node % 256) e ∙ compounded T items s good t i first-inside first-name .command))
+
+  module _ (r : Reduction) (e : r ≡ reductionAt T t i (view s items)) (b : Bool) (f : b ≡ overfullOf (ruleFor r) (s .lefts + s .rights)) (left : ℕ) where
     full-test : fold ANY (λ P. ltb ROOM (size P)) (premises t i (compoundAt T t i (view s items)) (sequentOf T items s)) ≡ b
     full-test = full-is T items s good t i first-inside first-name r e ∙ sym f
 

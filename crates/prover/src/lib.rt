@@ -9,21 +9,20 @@ use sequent::Place;
 use sequent::Placing;
 use sequent::ROOM;
 use sequent::Reduction;
-use sequent::Rule;
 use sequent::Running;
 ghost use mathlib.Core.Path.{_≡_};
-ghost use Prim.Native.Nat.{_+_, _≤_, _<_};
+ghost use Prim.Native.Nat.{_%_, _≤_};
 ghost use Rattle.calculus.specs.Limits;
 ghost use Rattle.calculus.specs.Limits.{CONNECTIVES};
-ghost use Rattle.calculus.specs.Syntax.{c};
-ghost use Rattle.calculus.specs.Bytes.{question};
+ghost use Rattle.calculus.specs.Syntax.{Connective, c};
+ghost use Rattle.calculus.specs.Bytes.{CONNECTIVE, code, question};
 ghost use Rattle.calculus.specs.Reading.{reading, accepted};
 ghost use Rattle.calculus.specs.Reply.{decideReply};
 ghost use Rattle.calculus.specs.Tree.{verdict, outcome, afford, due};
 ghost use Rattle.sequent.specs.declared.Place.the-variants.{At};
 ghost use Rattle.sequent.specs.Rule.{overfullOf};
 ghost use Rattle.sequent.specs.View.{view, sequentOf, Good};
-ghost use Rattle.sequent.specs.Compounds.{Clear, Found, compoundAt, premisesAt, premiseBy, Makes};
+ghost use Rattle.sequent.specs.Compounds.{Clear, Found, compoundAt, ruleFor, premisesAt, premiseBy, Makes};
 ghost use Rattle.prover.specs.Answers.{decisionOf, Promised};
 ghost use Rattle.prover.specs.Inner.{innerOf, Ready, Stepped, First};
 ghost use Rattle.prover.specs.Runs.{ended, Ran, Comes};
@@ -48,18 +47,14 @@ pub struct Reduced {
     pub stores: usize,
 }
 
-// Whether a premise of the rule would hold more formulas than there is room for, n being held now.
-fn overfull(rule: Rule, n: usize) -> bool
-    requires { ⌜ n ≤ Limits.ROOM ⌝ }
-    ensures { λ r. ⌜ r ≡ overfullOf rule n ⌝ }
+// Whether a premise of the reduction would hold more formulas than there is room for, n being held now. Both premises of a
+// rule place as many parts, so the first tells.
+fn overfull(r: Reduction, n: usize) -> bool
+    requires { ⌜ (n ≤ Limits.ROOM) × ((k : Connective) × (code (CONNECTIVE k) ≡ r .node % 256)) ⌝ }
+    ensures { λ b. ⌜ b ≡ overfullOf (ruleFor r) n ⌝ }
 {
-    if ROOM + 1 < n + sequent::placed(rule.first) {
-        return true;
-    }
-    if rule.premises == 2 {
-        return ROOM + 1 < n + sequent::placed(rule.second);
-    }
-    false
+    let rule = r.rule();
+    ROOM + 1 < n + sequent::placed(rule.first)
 }
 
 // The tests at a sequent whose first compound is at a place of a side: FULL, SPENT, then the reduction.
@@ -83,8 +78,7 @@ fn due_at(
         × Ready (now (nodes .entry)) (now (items .entry)) s left r ⌝ }
 {
     let r = s.reduction(nodes, items, side, at);
-    let rule = r.rule;
-    if overfull(rule, s.lefts + s.rights) {
+    if overfull(r, s.lefts + s.rights) {
         return Finding::Full;
     }
     if left == 0 {
@@ -157,10 +151,10 @@ fn run_premise(
         × (c (sequentOf (now nodes) (now items) s) ≤ CONNECTIVES) ⌝ }
     ensures { λ u. ⌜ Ran left (premiseBy (now (nodes .entry)) (now (items .entry)) s r p) u ⌝ }
 {
-    let side = r.side;
     let mut next = [0u8; 80];
-    let made = s.premise(items, &mut next, side, r.at, p, r.f, r.g);
+    let made = s.premise(items, &mut next, r, p);
     let t = made.running;
+    let side = r.side;
     let o = run(nodes, &next, t, s.start(side, r.at), left);
     let kind = o.kind;
     Reduced {
@@ -176,7 +170,7 @@ fn reduce(nodes: &[u32; 48], items: &[u8; 80], s: Running, r: Reduction, left: u
     requires { ⌜ First (now nodes) (now items) s r × (c (sequentOf (now nodes) (now items) s) ≤ CONNECTIVES) ⌝ }
     ensures { λ u. ⌜ Comes left (premisesAt (now (nodes .entry)) (now (items .entry)) s r) u ⌝ }
 {
-    let rule = r.rule;
+    let rule = r.rule();
     let n = rule.premises;
     let mut p = rule.first;
     let mut unspent = left;

@@ -3,7 +3,7 @@
 use mathlib.Core.Path.{_≡_, refl, sym, ap, _∙_, subst}
 use mathlib.Core.Option.{Option, some}
 use mathlib.Core.List.{List, [], _∷_, map}
-use Prim.Native.Nat.{ℕ, _+_, _≤_, _<_}
+use Prim.Native.Nat.{ℕ, _+_, _%_, _≤_, _<_}
 use native.Mathlib.Omega.{arith}
 use native.Mathlib.Decide.{decLt}
 use lib.Dec.{ltb}
@@ -25,11 +25,11 @@ use Rattle.sequent.specs.declared.Running.{Running}
 use Rattle.sequent.specs.declared.Built.{Built}
 use Rattle.sequent.specs.declared.Reduction.{Reduction}
 use Rattle.sequent.specs.declared.Place.the-variants.{At, Nowhere}
-use Rattle.sequent.specs.Names.{formulaIn, Known}
+use Rattle.sequent.specs.Names.{firstOf, secondOf, formulaIn, Known}
 use Rattle.sequent.specs.Rule.{ruleOf, partsOn, placed, premisesOf, sided, placings, overfullOf}
 use Rattle.sequent.specs.View.{view, countOf, maskOf, slotOf, startOf, nameAt, named, sequentOf, bitOf, lettersOf, Good}
 use Rattle.sequent.specs.Passes.{Builds}
-use Rattle.sequent.specs.Compounds.{firstIn, Clear, Found, compoundOf, IsCompound, compoundAt, reductionAt, premisesAt, premiseBy, Reducible, Makes}
+use Rattle.sequent.specs.Compounds.{firstIn, Clear, Found, compoundOf, IsCompound, compoundAt, ruleFor, reductionAt, premisesAt, premiseBy, Reducible, Makes}
 use Rattle.sequent.proofs.Lists.{on-left, on-right, element, each-splice, each-parts, each-at, each-unmap, ones}
 use Rattle.sequent.proofs.Rows.{rows-of}
 use Rattle.sequent.proofs.Masks.{letterBit, state-fold, OR}
@@ -150,64 +150,64 @@ module _ (T items : List ℕ) (s : Running) (good : Good T items s) where
         abbrev x : Compound
         x = compoundAt T t i (view s items)
 
-        rule-is : r .rule ≡ ruleOf (x .connective) t
-        rule-is = ap (λ (u : Reduction). u .rule) e ∙ ap (λ (k : Connective). ruleOf k t) (rule-connective T (good .nodes) (nameAt t i (view s items)) compounded)
+        rule-is : ruleFor r ≡ ruleOf (x .connective) t
+        rule-is = ap ruleFor e ∙ ap (λ (k : Connective). ruleOf k t) (rule-connective T (good .nodes) (nameAt t i (view s items)) compounded)
 
-        rows : premisesOf (r .rule) ≡ map sided (table (x .connective) t)
-        rows = rows-of (x .connective) t (r .rule) rule-is
+        rows : premisesOf (ruleFor r) ≡ map sided (table (x .connective) t)
+        rows = rows-of (x .connective) t (ruleFor r) rule-is
 
-        first-part : formulaIn T (r .f) ≡ x .f
-        first-part = ap (λ (u : Reduction). formulaIn T (u .f)) e ∙ compounded .first
+        first-part : formulaIn T (firstOf (r .node)) ≡ x .f
+        first-part = ap (λ (u : Reduction). formulaIn T (firstOf (u .node))) e ∙ compounded .first
 
-        second-part : formulaIn T (r .g) ≡ x .g
-        second-part = ap (λ (u : Reduction). formulaIn T (u .g)) e ∙ compounded .second
+        second-part : formulaIn T (secondOf (r .node)) ≡ x .g
+        second-part = ap (λ (u : Reduction). formulaIn T (secondOf (u .node))) e ∙ compounded .second
 
         -- the sequent of a premise, by where its parts go
         abbrev pub premiseOf : Placing → Sequent
-        premiseOf p = named (formulaIn T) (premise t i (view s items) (placed p (r .f) (r .g)))
+        premiseOf p = named (formulaIn T) (premise t i (view s items) (placed p (firstOf (r .node)) (secondOf (r .node))))
 
-        pub premises-are : map premiseOf (placings (r .rule)) ≡ premises t i x (sequentOf T items s)
-        premises-are = rule-premises (formulaIn T) (view s items) t i (r .f) (r .g) x first-part second-part (r .rule) rows
+        pub premises-are : map premiseOf (placings (ruleFor r)) ≡ premises t i x (sequentOf T items s)
+        premises-are = rule-premises (formulaIn T) (view s items) t i (firstOf (r .node)) (secondOf (r .node)) x first-part second-part (ruleFor r) rows
 
-        pub full-is : fold ANY (λ P. ltb ROOM (size P)) (premises t i x (sequentOf T items s)) ≡ overfullOf (r .rule) (s .lefts + s .rights)
-        full-is = rule-full (formulaIn T) (view s items) t i (r .f) (r .g) x first-part second-part (r .rule) rows inside ∙ ap (overfullOf (r .rule)) size-held
+        pub full-is : fold ANY (λ P. ltb ROOM (size P)) (premises t i x (sequentOf T items s)) ≡ overfullOf (ruleFor r) (s .lefts + s .rights)
+        full-is = rule-full (formulaIn T) (view s items) t i (firstOf (r .node)) (secondOf (r .node)) x first-part second-part (ruleFor r) rows inside ∙ ap (overfullOf (ruleFor r)) size-held
 
         -- ---- a premise made
 
-        module _ (p : Placing) (before new : List ℕ) (b : Built) (builds : Builds t i p (r .f) (r .g) s items before new b) (small : size (premiseOf p) ≤ ROOM) where
-          known-parts : (u : Side) → Each (Known T) (partsOn u p (r .f) (r .g))
+        module _ (p : Placing) (before new : List ℕ) (b : Built) (builds : Builds t i p (firstOf (r .node)) (secondOf (r .node)) s items before new b) (small : size (premiseOf p) ≤ ROOM) where
+          known-parts : (u : Side) → Each (Known T) (partsOn u p (firstOf (r .node)) (secondOf (r .node)))
           known-parts u =
-              each-parts (Known T) u p (r .f) (r .g)
-              (subst (Known T) (sym (ap (λ (v : Reduction). v .f) e)) (compounded .first-known))
-              (subst (Known T) (sym (ap (λ (v : Reduction). v .g) e)) (compounded .second-known))
+              each-parts (Known T) u p (firstOf (r .node)) (secondOf (r .node))
+              (subst (Known T) (sym (ap (λ (v : Reduction). firstOf (v .node)) e)) (compounded .first-known))
+              (subst (Known T) (sym (ap (λ (v : Reduction). secondOf (v .node)) e)) (compounded .second-known))
 
-          known-premise : (v u : Side) → Each (Known T) (on-side u (premise v i (view s items) (placed p (r .f) (r .g))))
-          known-premise Left Left = rw (on-left (partsOn Left p (r .f) (r .g)) (partsOn Right p (r .f) (r .g))) (each-splice (Known T) i (partsOn Left p (r .f) (r .g)) (view s items .on-left) (known-parts Left) (good .known Left))
-          known-premise Left Right = rw (on-right (partsOn Left p (r .f) (r .g)) (partsOn Right p (r .f) (r .g))) (each-append (Known T) (view s items .on-right) (partsOn Right p (r .f) (r .g)) (good .known Right) (known-parts Right))
-          known-premise Right Left = rw (on-left (partsOn Left p (r .f) (r .g)) (partsOn Right p (r .f) (r .g))) (each-append (Known T) (view s items .on-left) (partsOn Left p (r .f) (r .g)) (good .known Left) (known-parts Left))
-          known-premise Right Right = rw (on-right (partsOn Left p (r .f) (r .g)) (partsOn Right p (r .f) (r .g))) (each-splice (Known T) i (partsOn Right p (r .f) (r .g)) (view s items .on-right) (known-parts Right) (good .known Right))
+          known-premise : (v u : Side) → Each (Known T) (on-side u (premise v i (view s items) (placed p (firstOf (r .node)) (secondOf (r .node)))))
+          known-premise Left Left = rw (on-left (partsOn Left p (firstOf (r .node)) (secondOf (r .node))) (partsOn Right p (firstOf (r .node)) (secondOf (r .node)))) (each-splice (Known T) i (partsOn Left p (firstOf (r .node)) (secondOf (r .node))) (view s items .on-left) (known-parts Left) (good .known Left))
+          known-premise Left Right = rw (on-right (partsOn Left p (firstOf (r .node)) (secondOf (r .node))) (partsOn Right p (firstOf (r .node)) (secondOf (r .node)))) (each-append (Known T) (view s items .on-right) (partsOn Right p (firstOf (r .node)) (secondOf (r .node))) (good .known Right) (known-parts Right))
+          known-premise Right Left = rw (on-left (partsOn Left p (firstOf (r .node)) (secondOf (r .node))) (partsOn Right p (firstOf (r .node)) (secondOf (r .node)))) (each-append (Known T) (view s items .on-left) (partsOn Left p (firstOf (r .node)) (secondOf (r .node))) (good .known Left) (known-parts Left))
+          known-premise Right Right = rw (on-right (partsOn Left p (firstOf (r .node)) (secondOf (r .node))) (partsOn Right p (firstOf (r .node)) (secondOf (r .node)))) (each-splice (Known T) i (partsOn Right p (firstOf (r .node)) (secondOf (r .node))) (view s items .on-right) (known-parts Right) (good .known Right))
 
           pub premise-good : Good T new (b .running)
           premise-good =
               record {
                 nodes = good .nodes;
                 places = builds .full;
-                room = omega (arith, builds .counted, builds .stores, small, size-named (formulaIn T) (premise t i (view s items) (placed p (r .f) (r .g))));
+                room = omega (arith, builds .counted, builds .stores, small, size-named (formulaIn T) (premise t i (view s items) (placed p (firstOf (r .node)) (secondOf (r .node)))));
                 known = λ u. subst (λ (N : Seq ℕ). Each (Known T) (on-side u N)) (sym (builds .held)) (known-premise t u);
-                masks = masked-premise s (b .running) items new t i p (r .f) (r .g) (good .masks) inside c (builds .held) (builds .masks);
+                masks = masked-premise s (b .running) items new t i p (firstOf (r .node)) (secondOf (r .node)) (good .masks) inside c (builds .held) (builds .masks);
               }
 
   -- ---- a reduction that can be made
 
   module _ (r : Reduction) (can : Reducible T items s r) where
-    pub premises-made : map (premiseBy T items s r) (placings (r .rule)) ≡ premisesAt T items s r
+    pub premises-made : map (premiseBy T items s r) (placings (ruleFor r)) ≡ premisesAt T items s r
     premises-made = premises-are (r .side) (r .at) (can .inside) (can .compound) r (can .exact)
 
-    pub few : OneOrTwo (r .rule)
+    pub few : OneOrTwo (ruleFor r)
     few = rw (rule-is (r .side) (r .at) (can .inside) (can .compound) r (can .exact)) (one-or-two (compoundAt T (r .side) (r .at) (view s items) .connective) (r .side))
 
-    each-premise : (Q : Sequent → Type 0) → Each Q (premisesAt T items s r) → Each (λ p. Q (premiseBy T items s r p)) (placings (r .rule))
-    each-premise Q h = each-unmap (premiseBy T items s r) Q (placings (r .rule)) (subst (Each Q) (sym premises-made) h)
+    each-premise : (Q : Sequent → Type 0) → Each Q (premisesAt T items s r) → Each (λ p. Q (premiseBy T items s r p)) (placings (ruleFor r))
+    each-premise Q h = each-unmap (premiseBy T items s r) Q (placings (ruleFor r)) (subst (Each Q) (sym premises-made) h)
 
     fewer : Each (λ P. 1 + c P ≤ c (sequentOf T items s)) (premisesAt T items s r)
     fewer = go (premisesAt T items s r) (smaller (r .side) (r .at) (compoundAt T (r .side) (r .at) (view s items)) (sequentOf T items s) (stands (r .side) (r .at) (can .inside) (can .compound)))
@@ -217,8 +217,8 @@ module _ (T items : List ℕ) (s : Running) (good : Good T items s) where
         go (P ∷ Ps) h = (h .0 .0, go Ps (h .1))
 
     -- its command, and its place in a byte
-    pub command-made : r .connective ≡ code (CONNECTIVE (compoundAt T (r .side) (r .at) (view s items) .connective))
-    command-made = ap (λ (u : Reduction). u .connective) (can .exact) ∙ compounded (r .side) (r .at) (can .inside) (can .compound) .command
+    pub command-made : r .node % 256 ≡ code (CONNECTIVE (compoundAt T (r .side) (r .at) (view s items) .connective))
+    command-made = ap (λ (u : Reduction). u .node % 256) (can .exact) ∙ compounded (r .side) (r .at) (can .inside) (can .compound) .command
 
     pub place-small : r .at < ROOM
     place-small = go (r .side) (can .inside)
@@ -228,24 +228,24 @@ module _ (T items : List ℕ) (s : Running) (good : Good T items s) where
         go Right h = omega (arith, good .room)
 
     -- the next premise of a loop over the rule's
-    pub makes-next : (j : ℕ) (p : Placing) → Next (r .rule) j p → j < r .rule .premises → Makes T items s r p
+    pub makes-next : (j : ℕ) (p : Placing) → Next (ruleFor r) j p → j < ruleFor r .premises → Makes T items s r p
     makes-next j p n h =
         record {
           good = good;
           can = can;
-          small = next-each (r .rule) few (λ p. size (premiseBy T items s r p) ≤ ROOM) (each-premise (λ P. size P ≤ ROOM) (can .fits)) j p n h;
-          fewer = next-each (r .rule) few (λ p. 1 + c (premiseBy T items s r p) ≤ c (sequentOf T items s)) (each-premise (λ P. 1 + c P ≤ c (sequentOf T items s)) fewer) j p n h;
+          small = next-each (ruleFor r) few (λ p. size (premiseBy T items s r p) ≤ ROOM) (each-premise (λ P. size P ≤ ROOM) (can .fits)) j p n h;
+          fewer = next-each (ruleFor r) few (λ p. 1 + c (premiseBy T items s r p) ≤ c (sequentOf T items s)) (each-premise (λ P. 1 + c P ≤ c (sequentOf T items s)) fewer) j p n h;
         }
 
 -- ---- a premise made
 
 module _ (T items : List ℕ) (s : Running) (r : Reduction) (p : Placing) (m : Makes T items s r p) where
   -- what `premise` asks beside the new list's length
-  pub premise-asks : (r .at < countOf (r .side) s) × (s .lefts + s .rights ≤ ROOM) × (length items ≡ ROOM) × (size (premise (r .side) (r .at) (view s items) (placed p (r .f) (r .g))) ≤ ROOM)
+  pub premise-asks : (r .at < countOf (r .side) s) × (s .lefts + s .rights ≤ ROOM) × (length items ≡ ROOM) × (size (premise (r .side) (r .at) (view s items) (placed p (firstOf (r .node)) (secondOf (r .node)))) ≤ ROOM)
   premise-asks =
-      (m .can .inside, m .good .room, m .good .places, omega (arith, m .small, size-named (formulaIn T) (premise (r .side) (r .at) (view s items) (placed p (r .f) (r .g)))))
+      (m .can .inside, m .good .room, m .good .places, omega (arith, m .small, size-named (formulaIn T) (premise (r .side) (r .at) (view s items) (placed p (firstOf (r .node)) (secondOf (r .node))))))
 
-  module _ (before new : List ℕ) (b : Built) (builds : Builds (r .side) (r .at) p (r .f) (r .g) s items before new b) where
+  module _ (before new : List ℕ) (b : Built) (builds : Builds (r .side) (r .at) p (firstOf (r .node)) (secondOf (r .node)) s items before new b) where
     pub made-is : sequentOf T new (b .running) ≡ premiseBy T items s r p
     made-is = ap (named (formulaIn T)) (builds .held)
 
@@ -253,10 +253,10 @@ module _ (T items : List ℕ) (s : Running) (r : Reduction) (p : Placing) (m : M
     made-good = premise-good T items s (m .good) (r .side) (r .at) (m .can .inside) (m .can .compound) r (m .can .exact) p before new b builds (m .small)
 
     pub made-stores : b .stores ≡ size (premiseBy T items s r p)
-    made-stores = builds .stores ∙ sym (size-named (formulaIn T) (premise (r .side) (r .at) (view s items) (placed p (r .f) (r .g))))
+    made-stores = builds .stores ∙ sym (size-named (formulaIn T) (premise (r .side) (r .at) (view s items) (placed p (firstOf (r .node)) (secondOf (r .node)))))
 
     -- letters alone stand before where it is searched from, if the first compound was reduced
     pub made-clear : Found (view s items) (At (r .side) (r .at)) → Clear (startOf (r .side) (r .at) s) new (b .running)
     made-clear found =
-        let w = restarts s items (m .good .places) (m .good .room) (r .side) (r .at) found (placed p (r .f) (r .g)) (b .running) new (builds .held) in
+        let w = restarts s items (m .good .places) (m .good .room) (r .side) (r .at) found (placed p (firstOf (r .node)) (secondOf (r .node))) (b .running) new (builds .held) in
         record { inside = omega (arith, w .0); letters = w .1 }

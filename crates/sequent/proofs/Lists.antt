@@ -4,7 +4,7 @@ use mathlib.Core.Path.{_≡_, refl, ap}
 use mathlib.Core.Bool.{Bool, true, false}
 use mathlib.Core.Option.{some}
 use mathlib.Core.List.{List, [], _∷_, _++_, map, map-append}
-use Prim.Native.Nat.{ℕ, zero, suc, _+_, _<_}
+use Prim.Native.Nat.{ℕ, zero, suc, _+_, _≤_, _<_}
 use native.Mathlib.Omega.{arith}
 use lib.Dec.{eqb}
 use lib.ListN.{length, take, drop, getD, getElem?, length-append, length-take, length-drop}
@@ -50,6 +50,13 @@ kept x y true true = refl
 kept x y true false = refl
 kept x y false true = refl
 kept x y false false = refl
+
+-- a part that goes somewhere goes to one side
+pub somewhere : (n : ℕ) → n ≤ 2 → (n ≡ 0 → ⊥) → 1 ≡ countOne (eqb n 1) + countOne (eqb n 2)
+somewhere zero h k = absurd (k refl)
+somewhere (suc zero) h k = refl
+somewhere (suc (suc zero)) h k = refl
+somewhere (suc (suc (suc n))) h k = absurd (omega arith)
 
 -- ---- a fact of each element
 

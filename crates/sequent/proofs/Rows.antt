@@ -1,13 +1,18 @@
 -- The ten rows of the table, one by one.
 -- Assumes nothing.
-use mathlib.Core.Path.{_≡_, refl, ap, _∙_}
+use mathlib.Core.Path.{_≡_, refl, sym, ap, _∙_}
+use mathlib.Core.Bool.{Bool, true, false, _||_, or-false}
 use mathlib.Core.List.{map}
+use Prim.Native.Nat.{ℕ, _+_, _≤_}
+use native.Mathlib.Omega.{arith}
+use lib.Dec.{ltb}
 use Rattle.calculus.specs.declared.Side.{Side}
 use Rattle.calculus.specs.declared.Side.the-variants.{Left, Right}
-use Rattle.calculus.specs.Syntax.{AND, OR, IMPLIES, EQUIV, Connective, NOT, two}
+use Rattle.calculus.specs.Limits.{ROOM}
+use Rattle.calculus.specs.Syntax.{AND, OR, IMPLIES, EQUIV, Connective, NOT, two, size}
 use Rattle.calculus.specs.Table.{table}
 use Rattle.sequent.specs.declared.Rule.{Rule}
-use Rattle.sequent.specs.Rule.{ruleOf, premisesOf, sided}
+use Rattle.sequent.specs.Rule.{ruleOf, premiseOf, premisesOf, sided, overfullOf}
 
 pub ten : {Q : Type 0} (k : Connective) (s : Side)
     → (k ≡ NOT → s ≡ Left → Q) → (k ≡ NOT → s ≡ Right → Q) → (k ≡ two AND → s ≡ Left → Q) → (k ≡ two AND → s ≡ Right → Q)
@@ -41,3 +46,37 @@ rule-row k s =
 
 pub rows-of : (k : Connective) (s : Side) (r : Rule) → r ≡ ruleOf k s → premisesOf r ≡ map sided (table k s)
 rows-of k s r e = ap premisesOf e ∙ rule-row k s
+
+-- Each part of a first premise has its side's number or none.
+pub first-sides : (k : Connective) (s : Side) → (ruleOf k s .first .f ≤ 2) × (ruleOf k s .first .g ≤ 2)
+first-sides k s =
+    ten k s
+    (λ h d. rw (h, d) (omega arith, omega arith))
+    (λ h d. rw (h, d) (omega arith, omega arith))
+    (λ h d. rw (h, d) (omega arith, omega arith))
+    (λ h d. rw (h, d) (omega arith, omega arith))
+    (λ h d. rw (h, d) (omega arith, omega arith))
+    (λ h d. rw (h, d) (omega arith, omega arith))
+    (λ h d. rw (h, d) (omega arith, omega arith))
+    (λ h d. rw (h, d) (omega arith, omega arith))
+    (λ h d. rw (h, d) (omega arith, omega arith))
+    (λ h d. rw (h, d) (omega arith, omega arith))
+
+-- Both premises of a rule place as many parts, so that the first tells whether there is room.
+pub first-tells : (k : Connective) (s : Side) (n : ℕ) → ltb (ROOM + 1) (n + size (premiseOf (ruleOf k s .first))) ≡ overfullOf (ruleOf k s) n
+first-tells k s n =
+    ten k s
+    (λ h d. rw (h, d) (sym (or-false _)))
+    (λ h d. rw (h, d) (sym (or-false _)))
+    (λ h d. rw (h, d) (sym (or-false _)))
+    (λ h d. rw (h, d) (twice _))
+    (λ h d. rw (h, d) (twice _))
+    (λ h d. rw (h, d) (sym (or-false _)))
+    (λ h d. rw (h, d) (twice _))
+    (λ h d. rw (h, d) (sym (or-false _)))
+    (λ h d. rw (h, d) (twice _))
+    (λ h d. rw (h, d) (twice _))
+  where
+    twice : (b : Bool) → b ≡ (b || b)
+    twice true = refl
+    twice false = refl

@@ -11,6 +11,7 @@ use Rattle.calculus.specs.Limits.{LETTERS, ROOM}
 use Rattle.calculus.specs.Syntax.{NOT, two, Formula, letter, neg, join, Compound, whole, Seq, Sequent, c, size}
 use Rattle.calculus.specs.Table.{premise, premises}
 use Rattle.sequent.specs.declared.Placing.{Placing}
+use Rattle.sequent.specs.declared.Rule.{Rule}
 use Rattle.sequent.specs.declared.Running.{Running}
 use Rattle.sequent.specs.declared.Reduction.{Reduction}
 use Rattle.sequent.specs.declared.Place.{Place}
@@ -52,13 +53,13 @@ IsCompound x = x ≡ whole (compoundOf x)
 abbrev pub compoundAt : List ℕ → Side → ℕ → Seq ℕ → Compound
 compoundAt T t i N = compoundOf (formulaIn T (nameAt t i N))
 
--- how the node w, at a place of a side, reduces
-abbrev pub reductionBy : ℕ → Side → ℕ → Reduction
-reductionBy w t i =
-    record { side = t; at = i; connective = w % 256; rule = ruleOf (connectiveOf (w % 256)) t; f = firstOf w; g = secondOf w }
-
+-- its reduction, by its node
 abbrev pub reductionAt : List ℕ → Side → ℕ → Seq ℕ → Reduction
-reductionAt T t i N = reductionBy (nodeOf T (nameAt t i N)) t i
+reductionAt T t i N = record { side = t; at = i; node = nodeOf T (nameAt t i N) }
+
+-- the row of the table that a reduction goes by
+abbrev pub ruleFor : Reduction → Rule
+ruleFor r = ruleOf (connectiveOf (r .node % 256)) (r .side)
 
 -- ---- premises
 
@@ -68,7 +69,7 @@ premisesAt T items s r = premises (r .side) (r .at) (compoundAt T (r .side) (r .
 
 -- the premise in which the parts go where p says
 abbrev pub premiseBy : List ℕ → List ℕ → Running → Reduction → Placing → Sequent
-premiseBy T items s r p = named (formulaIn T) (premise (r .side) (r .at) (view s items) (placed p (r .f) (r .g)))
+premiseBy T items s r p = named (formulaIn T) (premise (r .side) (r .at) (view s items) (placed p (firstOf (r .node)) (secondOf (r .node))))
 
 -- a reduction that can be made: a compound stands at its place, and no premise is too long
 pub record Reducible (T items : List ℕ) (s : Running) (r : Reduction) : Type 0 where

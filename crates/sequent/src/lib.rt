@@ -5,16 +5,18 @@ use question::LETTERS;
 ghost use mathlib.Core.Path.{_≡_};
 ghost use mathlib.Core.List.{_++_};
 ghost use Prim.Native.Nat.{_+_, _-_, _%_, _≤_, _<_};
+ghost use lib.Dec.{eqb};
 ghost use lib.ListN.{length};
 ghost use lib.Seq.{slice};
 ghost use Rattle.calculus.specs.Limits.{ROOM, LETTERS};
 ghost use Rattle.calculus.specs.Syntax.{Connective, size};
 ghost use Rattle.calculus.specs.Bytes.{CONNECTIVE, code};
 ghost use Rattle.calculus.specs.Table.{premise};
+ghost use Rattle.sequent.specs.Names.{firstOf, secondOf};
 ghost use Rattle.sequent.specs.Rule.{sideCode, ruleOf, keep, partsOn, placed, premiseOf, countOne};
 ghost use Rattle.sequent.specs.View.{view, countOf, slotOf, endOf, startOf, lettersOf, Lettered, Good, nameAt, Pushed};
 ghost use Rattle.sequent.specs.Passes.{Fits, Stored, Builds};
-ghost use Rattle.sequent.specs.Compounds.{firstIn, Clear, Found, reductionAt};
+ghost use Rattle.sequent.specs.Compounds.{firstIn, Clear, Found, ruleFor, reductionAt};
 
 // How many formulas stand on each side, and the letters of each side, a bit each. The names of the formulas, the left side's
 // and then the right side's, are lent beside it: a letter is named by itself, a compound by its node, above the letters.
@@ -37,14 +39,11 @@ pub struct Rule {
     pub second: Placing,
 }
 
-// The compound at a place of a side: its connective's command, its rule on that side, and the names of its parts.
+// The compound at a place of a side, by its node.
 pub struct Reduction {
     pub side: Side,
     pub at: usize,
-    pub connective: u8,
-    pub rule: Rule,
-    pub f: u8,
-    pub g: u8,
+    pub node: u32,
 }
 
 // A side and a place of it.
@@ -104,7 +103,7 @@ fn digit(n: u32) -> u8
 }
 
 // The rule of the connective whose command is b, on a side.
-pub fn rule_of(b: u8, side: Side) -> Rule
+fn rule_of(b: u8, side: Side) -> Rule
     requires { ⌜ (2 ≤ b) × (b ≤ 6) ⌝ }
     ensures { λ r. ⌜ ((k : Connective) → code (CONNECTIVE k) ≡ b → r ≡ ruleOf k side) ⌝ }
 {
@@ -123,17 +122,48 @@ pub fn rule_of(b: u8, side: Side) -> Rule
     }
 }
 
-fn one(yes: bool) -> usize
-    ensures { λ r. ⌜ (r ≡ countOne yes) × (r ≤ 1) ⌝ }
+// 1 for a part that goes to a side, 0 for one that goes nowhere.
+fn one(side: u8) -> usize
+    requires { ⌜ side ≤ 2 ⌝ }
+    ensures { λ r. ⌜ (r ≡ countOne (eqb side 1) + countOne (eqb side 2)) × (r ≤ 1) ⌝ }
 {
-    if yes { 1 } else { 0 }
+    if side == 0 {
+        return 0;
+    }
+    1
 }
 
 // How many parts a premise places.
 pub fn placed(p: Placing) -> usize
-    ensures { λ r. ⌜ (r ≡ size (premiseOf p)) × (r ≤ 4) ⌝ }
+    requires { ⌜ (p .f ≤ 2) × (p .g ≤ 2) ⌝ }
+    ensures { λ r. ⌜ (r ≡ size (premiseOf p)) × (r ≤ 2) ⌝ }
 {
-    one(p.f == L) + one(p.g == L) + (one(p.f == R) + one(p.g == R))
+    one(p.f) + one(p.g)
+}
+
+// The lowest byte of a number.
+fn low(n: u32) -> u8
+    ensures { λ r. ⌜ r ≡ n % 256 ⌝ }
+{
+    (n % 256) as u8
+}
+
+impl Reduction {
+    // The command of the compound's connective.
+    pub fn command(self) -> u8
+        ensures { λ r. ⌜ r ≡ self .node % 256 ⌝ }
+    {
+        low(self.node)
+    }
+
+    // The row of the table that it goes by.
+    pub fn rule(self) -> Rule
+        requires { ⌜ ((k : Connective) × (code (CONNECTIVE k) ≡ self .node % 256)) ⌝ }
+        ensures { λ r. ⌜ r ≡ ruleFor self ⌝ }
+    {
+        let side = self.side;
+        rule_of(low(self.node), side)
+    }
 }
 
 // ---- the places of a premise, stored from the first to the last
@@ -336,8 +366,8 @@ impl Running {
 }
 
 impl Running {
-    // A premise: the parts of its side take the place, the others go to the end of their side.
-    pub fn premise(
+    // The parts of the reduced side take the place, the others go to the end of their side.
+    fn build(
         self,
         old: &[u8; 80],
         new: &mut [u8; 80],
@@ -397,6 +427,35 @@ impl Running {
     }
 }
 
+impl Running {
+    // A premise of a reduction: the names f and g of its parts go where p says.
+    pub fn premise(self, old: &[u8; 80], new: &mut [u8; 80], r: Reduction, p: Placing) -> Built
+        requires { ⌜
+            (r .at < countOf (r .side) self)
+            × (self .lefts + self .rights ≤ ROOM)
+            × (length (now old) ≡ ROOM)
+            × (length (now new) ≡ ROOM)
+            × (size (premise (r .side) (r .at) (view self (now old)) (placed p (firstOf (r .node)) (secondOf (r .node)))) ≤ ROOM) ⌝ }
+        ensures { λ b. ⌜
+            Builds
+            (r .side)
+            (r .at)
+            p
+            (firstOf (r .node))
+            (secondOf (r .node))
+            self
+            (now (old .entry))
+            (now (new .entry))
+            (now (new .exit))
+            b ⌝ }
+    {
+        let side = r.side;
+        let f = low(r.node / 256);
+        let g = low(r.node / 65536);
+        self.build(old, new, side, r.at, p, f, g)
+    }
+}
+
 // The first compound from a place on, or n.
 fn first_from(items: &[u8; 80], from: usize, n: usize) -> usize
     requires { ⌜ (from ≤ n) × (n ≤ ROOM) × (length (now items) ≡ ROOM) ⌝ }
@@ -410,13 +469,6 @@ fn first_from(items: &[u8; 80], from: usize, n: usize) -> usize
         i += 1;
     }
     n
-}
-
-// The lowest byte of a number.
-fn low(n: u32) -> u8
-    ensures { λ r. ⌜ r ≡ n % 256 ⌝ }
-{
-    (n % 256) as u8
 }
 
 impl Running {
@@ -450,14 +502,10 @@ impl Running {
         let k = self.slot(side, at);
         let n = wide(items[k] - LETTERS);
         let node = nodes[n];
-        let b = low(node);
         Reduction {
             side: side,
             at: at,
-            connective: b,
-            rule: rule_of(b, side),
-            f: low(node / 256),
-            g: low(node / 65536),
+            node: node,
         }
     }
 }

@@ -88,7 +88,7 @@ fn emit(
         Finding::Closed(k) => put(buffer, at, 0x41, k as u8),
         Finding::Reduce(r) => {
             let side = r.side;
-            let i = put(buffer, at, command_of(side, r.connective), r.at as u8);
+            let i = put(buffer, at, command_of(side, r.command()), r.at as u8);
             let e = emit_premises(nodes, items, s, r, buffer, i);
             e.end
         }
@@ -120,10 +120,10 @@ fn emit_premise(
         (now (buffer .exit))
         e ⌝ }
 {
-    let side = r.side;
     let mut next = [0u8; 80];
-    let made = s.premise(items, &mut next, side, r.at, p, r.f, r.g);
+    let made = s.premise(items, &mut next, r, p);
     let t = made.running;
+    let side = r.side;
     let end = emit(nodes, &next, t, s.start(side, r.at), buffer, at);
     Emitted {
         end: end,
@@ -153,7 +153,7 @@ fn emit_premises(
         (now (buffer .exit))
         e ⌝ }
 {
-    let rule = r.rule;
+    let rule = r.rule();
     let n = rule.premises;
     let mut p = rule.first;
     let mut end = at;

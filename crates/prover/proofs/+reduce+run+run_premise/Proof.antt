@@ -1,5 +1,5 @@
 -- The run meets its contract: the connectives of the running sequent fall from a sequent to its premises. Assumes nothing.
-use mathlib.Core.Path.{_≡_, ap, _∙_}
+use mathlib.Core.Path.{_≡_, sym, ap, _∙_, subst}
 use mathlib.Core.List.{[], _∷_}
 use Prim.Native.Nat.{ℕ, _+_, _-_, _*_, _^_, _≤_, _<_}
 use native.Mathlib.Omega.{arith}
@@ -11,9 +11,10 @@ use Rattle.calculus.specs.declared.Outcome.{Outcome}
 use Rattle.calculus.specs.Limits.{CONNECTIVES}
 use Rattle.calculus.specs.Syntax.{c as connectivesOf}
 use Rattle.calculus.specs.Tree.{outcome}
-use Rattle.sequent.specs.View.{sequentOf}
-use Rattle.sequent.specs.Compounds.{premiseBy, Makes}
-use Rattle.sequent.proofs.Goods.{premises-made, few, makes-next, premise-asks, made-is, made-good, made-stores, made-clear}
+use Rattle.sequent.specs.declared.Rule.{Rule}
+use Rattle.sequent.specs.View.{view, sequentOf}
+use Rattle.sequent.specs.Compounds.{compoundAt, ruleFor, premiseBy, Makes}
+use Rattle.sequent.proofs.Goods.{premises-made, few, command-made, makes-next, premise-asks, made-is, made-good, made-stores, made-clear}
 use Rattle.prover.proofs.Runs.{answered, closings-small, Ahead, ahead-starts, ahead-goes, ahead-stops, ahead-ends}
 use Rattle.prover.proofs.reduce.Reads as reduce
 use Rattle.prover.proofs.reduce.Kinds as reduce-kinds
@@ -28,6 +29,7 @@ use Rattle.prover.proofs.ended.Reads as ended-reads
 use Rattle.prover.proofs.step.Reads as step-reads
 use Rattle.sequent.proofs.Running.premise.Reads as premise-reads
 use Rattle.sequent.proofs.Running.start.Reads as start-reads
+use Rattle.sequent.proofs.Reduction.rule.Reads as rule-reads
 use Rattle.prover.proofs.+reduce+run+run_premise.{statement}
 use Rattle.prover.proofs.+reduce+run+run_premise.Tie.{close}
 
@@ -64,13 +66,19 @@ run-premise-below t =
 
 abbrev reduce-Inv-loop : reduce-lts.InvT-loop
 reduce-Inv-loop nodes items s r left rule n p₀ unspent₀ closings₀ stores₀ j₀ p unspent closings stores j =
-    Ahead (premiseBy nodes items s r) (r .rule) left j unspent closings stores p
+    Ahead (premiseBy nodes items s r) (ruleFor r) left j unspent closings stores p
 
 abbrev reduce-μ-loop : reduce-lts.MeasureT-loop
 reduce-μ-loop nodes items s r left rule n p₀ unspent₀ closings₀ stores₀ j₀ p unspent closings stores j = n - j
 
+abbrev reduce-calls : ℕ → reduce-lts.Claims
+reduce-calls t = (rule-reads.Asked, rule-reads.Learnt, run-premise-below t, run-premise.Post)
+
 abbrev InLoop : ℕ → Type 0
-InLoop t = reduce-lts.In-loop (run-premise-below t, run-premise.Post) (reduce-at t) reduce.Post reduce-Inv-loop reduce-μ-loop
+InLoop t = reduce-lts.In-loop (reduce-calls t) (reduce-at t) reduce.Post reduce-Inv-loop reduce-μ-loop
+
+taken-now : (t : ℕ) (c : InLoop t) → c .before .loop .j < ruleFor (c .before .before .before .before .args .r) .premises
+taken-now t c = subst (λ (u : Rule). c .before .loop .j < u .premises) (c .before .before .before .rule .ensures) (c .loop-test .taken)
 
 -- the next premise can be made
 makes-now : (t : ℕ) (c : InLoop t) → let a = c .before .before .before .before .args in Makes (a .nodes .now) (a .items .now) (a .s) (a .r) (c .before .loop .p)
@@ -79,17 +87,17 @@ makes-now t c =
     let a = s .args in
     let h = s .pre .1 in
     let l = c .before .loop in
-    makes-next (a .nodes .now) (a .items .now) (a .s) (h .0 .good) (a .r) (h .0 .can) (l .j) (l .p) (l .inv .next) (c .loop-test .taken)
+    makes-next (a .nodes .now) (a .items .now) (a .s) (h .0 .good) (a .r) (h .0 .can) (l .j) (l .p) (l .inv .next) (taken-now t c)
 
 j-small : (t : ℕ) (c : InLoop t) → c .before .loop .j < 2
 j-small t c =
     let s = c .before .before .before .before in
     let a = s .args in
     let h = s .pre .1 in
-    omega (arith, c .loop-test .taken, few (a .nodes .now) (a .items .now) (a .s) (h .0 .good) (a .r) (h .0 .can) .two)
+    omega (arith, taken-now t c, few (a .nodes .now) (a .items .now) (a .s) (h .0 .good) (a .r) (h .0 .can) .two)
 
 -- the premise's closings fit
-closings-now : (t : ℕ) (c : reduce-lts.After-run-premise (run-premise-below t, run-premise.Post) (reduce-at t) reduce.Post reduce-Inv-loop reduce-μ-loop)
+closings-now : (t : ℕ) (c : reduce-lts.After-run-premise (reduce-calls t) (reduce-at t) reduce.Post reduce-Inv-loop reduce-μ-loop)
     → c .run-premise .result .closings ≤ 2 ^ CONNECTIVES
 closings-now t c =
     let s = c .before .before .before .before .before in
@@ -99,19 +107,20 @@ closings-now t c =
     omega (arith, ap (λ (o : Outcome). o .closings) (c .run-premise .ensures .outcome), closings-small (l .unspent) P (omega (arith, makes-now t (c .before) .fewer, s .pre .1 .1)))
 
 pub +reduce+run+run-premise-spec : {M : Type 1} → statement M
-+reduce+run+run-premise-spec = close μ-reduce μ-run μ-run-premise (λ t. reduce-lts.spec (
-  run-premise-below t,
-  run-premise.Post,
-)
++reduce+run+run-premise-spec = close μ-reduce μ-run μ-run-premise (λ t. reduce-lts.spec (reduce-calls t)
     (reduce-at t)
     reduce.Post
     reduce-Inv-loop
     reduce-μ-loop
+    (λ c κs.
+    let a = c .args in
+    let h = c .pre .1 .0 in
+    (compoundAt (a .nodes .now) (a .r .side) (a .r .at) (view (a .s) (a .items .now)) .connective, sym (command-made (a .nodes .now) (a .items .now) (a .s) (h .good) (a .r) (h .can))))
     (λ c.
     let s = c .before .before in
     let a = s .args in
     let h = s .pre .1 in
-    ahead-starts (premiseBy (a .nodes .now) (a .items .now) (a .s) (a .r)) (a .r .rule) (few (a .nodes .now) (a .items .now) (a .s) (h .0 .good) (a .r) (h .0 .can)) (a .left))
+    subst (λ (u : Rule). Ahead (premiseBy (a .nodes .now) (a .items .now) (a .s) (a .r)) (ruleFor (a .r)) (a .left) 0 (a .left) 0 0 (u .first)) (sym (c .before .rule .ensures)) (ahead-starts (premiseBy (a .nodes .now) (a .items .now) (a .s) (a .r)) (ruleFor (a .r)) (few (a .nodes .now) (a .items .now) (a .s) (h .0 .good) (a .r) (h .0 .can)) (a .left)))
     (λ c κs.
     let s = c .before .before .before .before in
     let h = s .pre .1 in
@@ -126,7 +135,7 @@ pub +reduce+run+run-premise-spec : {M : Type 1} → statement M
     let l = c .before .before .before .before .before .loop in
     let u = c .before .before .before .run-premise in
     rw (← premises-made (a .nodes .now) (a .items .now) (a .s) (h .0 .good) (a .r) (h .0 .can))
-    (ahead-stops (premiseBy (a .nodes .now) (a .items .now) (a .s) (a .r)) (a .r .rule) (few (a .nodes .now) (a .items .now) (a .s) (h .0 .good) (a .r) (h .0 .can)) (a .left) (l .j) (l .unspent) (l .closings) (l .stores) (l .p) (l .inv) (c .before .before .before .before .loop-test .taken)
+    (ahead-stops (premiseBy (a .nodes .now) (a .items .now) (a .s) (a .r)) (ruleFor (a .r)) (few (a .nodes .now) (a .items .now) (a .s) (h .0 .good) (a .r) (h .0 .can)) (a .left) (l .j) (l .unspent) (l .closings) (l .stores) (l .p) (l .inv) (taken-now t (c .before .before .before .before))
     (u .result) (u .ensures) (λ k. miss (1 ∷ 2 ∷ 3 ∷ []) 0 tt (rw k at (c .match .keys2)))))
     (λ c. omega (arith, j-small t (c .before .before .before .before .before .before)))
     (λ c. omega (arith, c .before .before .before .before .before .before .loop-test .taken))
@@ -136,15 +145,16 @@ pub +reduce+run+run-premise-spec : {M : Type 1} → statement M
     let h = s .pre .1 in
     let l = c .before .before .before .before .before .before .before .loop in
     let u = c .before .before .before .before .before .run-premise in
-    ahead-goes (premiseBy (a .nodes .now) (a .items .now) (a .s) (a .r)) (a .r .rule) (few (a .nodes .now) (a .items .now) (a .s) (h .0 .good) (a .r) (h .0 .can)) (a .left) (l .j) (l .unspent) (l .closings) (l .stores) (l .p) (l .inv) (c .before .before .before .before .before .before .loop-test .taken)
-    (u .result) (u .ensures) (c .before .enum-told .given .1) (closings-now t (c .before .before .before .before .before)) (makes-now t (c .before .before .before .before .before .before) .small))
+    subst (λ (v : Rule). Ahead (premiseBy (a .nodes .now) (a .items .now) (a .s) (a .r)) (ruleFor (a .r)) (a .left) (l .j + 1) (u .result .unspent) (l .closings + u .result .closings) (l .stores + u .result .stores) (v .second)) (sym (c .before .before .before .before .before .before .before .before .before .rule .ensures))
+    (ahead-goes (premiseBy (a .nodes .now) (a .items .now) (a .s) (a .r)) (ruleFor (a .r)) (few (a .nodes .now) (a .items .now) (a .s) (h .0 .good) (a .r) (h .0 .can)) (a .left) (l .j) (l .unspent) (l .closings) (l .stores) (l .p) (l .inv) (taken-now t (c .before .before .before .before .before .before))
+    (u .result) (u .ensures) (c .before .enum-told .given .1) (closings-now t (c .before .before .before .before .before)) (makes-now t (c .before .before .before .before .before .before) .small)))
     (λ c.
     let s = c .before .before .before .before in
     let a = s .args in
     let h = s .pre .1 in
     let l = c .before .loop in
     rw (← premises-made (a .nodes .now) (a .items .now) (a .s) (h .0 .good) (a .r) (h .0 .can))
-    (ahead-ends (premiseBy (a .nodes .now) (a .items .now) (a .s) (a .r)) (a .r .rule) (few (a .nodes .now) (a .items .now) (a .s) (h .0 .good) (a .r) (h .0 .can)) (a .left) (l .j) (l .unspent) (l .closings) (l .stores) (l .p) (l .inv) (c .loop-test .left))))
+    (ahead-ends (premiseBy (a .nodes .now) (a .items .now) (a .s) (a .r)) (ruleFor (a .r)) (few (a .nodes .now) (a .items .now) (a .s) (h .0 .good) (a .r) (h .0 .can)) (a .left) (l .j) (l .unspent) (l .closings) (l .stores) (l .p) (l .inv) (subst (λ (u : Rule). u .premises ≤ l .j) (c .before .before .before .rule .ensures) (c .loop-test .left)))))
     (λ t. run-lts.spec (
       step-reads.Asked,
       step-reads.Learnt,

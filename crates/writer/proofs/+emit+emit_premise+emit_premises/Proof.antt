@@ -2,7 +2,7 @@
 -- Assumes nothing.
 use mathlib.Core.Path.{_≡_, sym, ap, _∙_, subst}
 use mathlib.Core.List.{List, [], _∷_}
-use Prim.Native.Nat.{ℕ, _+_, _-_, _*_, _^_, _<_}
+use Prim.Native.Nat.{ℕ, _+_, _-_, _*_, _^_, _≤_, _<_}
 use native.Mathlib.Omega.{arith}
 use lib.ListN.{length}
 use lib.Seq.{sets}
@@ -17,8 +17,9 @@ use Rattle.calculus.specs.Derivation.{REDUCE, orderCode, derivation}
 use Rattle.calculus.specs.Tree.{tree, isClosed, isDue, inner}
 use Rattle.question.proofs.Readers.{connective-range}
 use Rattle.sequent.specs.declared.Reduction.{Reduction}
+use Rattle.sequent.specs.declared.Rule.{Rule}
 use Rattle.sequent.specs.View.{view, sequentOf}
-use Rattle.sequent.specs.Compounds.{compoundAt, premisesAt, premiseBy, Makes}
+use Rattle.sequent.specs.Compounds.{compoundAt, ruleFor, premisesAt, premiseBy, Makes}
 use Rattle.sequent.proofs.Goods.{masks-state, premises-made, few, command-made, place-small, makes-next, premise-asks, made-is, made-good, made-stores, made-clear}
 use Rattle.prover.specs.Inner.{ReadyAt}
 use Rattle.writer.specs.Emits.{Provable, derivations}
@@ -35,6 +36,8 @@ use Rattle.writer.proofs.+emit+emit_premise+emit_premises.Lts-emit_prem
 use Rattle.prover.proofs.step.Reads as step-reads
 use Rattle.sequent.proofs.Running.premise.Reads as premise-reads
 use Rattle.sequent.proofs.Running.start.Reads as start-reads
+use Rattle.sequent.proofs.Reduction.command.Reads as command-reads
+use Rattle.sequent.proofs.Reduction.rule.Reads as rule-reads
 use Rattle.writer.proofs.command_of.Reads as command-of-reads
 use Rattle.writer.proofs.put.Reads as put-reads
 use Rattle.writer.proofs.+emit+emit_premise+emit_premises.{statement}
@@ -87,6 +90,8 @@ emit-calls t = (
   step-reads.Learnt,
   put-reads.Asked,
   put-reads.Learnt,
+  command-reads.Asked,
+  command-reads.Learnt,
   command-of-reads.Asked,
   command-of-reads.Learnt,
   emit-premises-below t,
@@ -139,13 +144,19 @@ command-now t c =
 
 abbrev emit-premises-Inv-loop : emit-premises-lts.InvT-loop
 emit-premises-Inv-loop nodes items s r buffer₀ at rule n p₀ end₀ stores₀ j₀ buffer p end stores j =
-    Ahead (premiseBy nodes items s r) (r .rule) buffer₀ at j end stores buffer p
+    Ahead (premiseBy nodes items s r) (ruleFor r) buffer₀ at j end stores buffer p
 
 abbrev emit-premises-μ-loop : emit-premises-lts.MeasureT-loop
 emit-premises-μ-loop nodes items s r buffer₀ at rule n p₀ end₀ stores₀ j₀ buffer p end stores j = n - j
 
+abbrev emit-premises-calls : ℕ → emit-premises-lts.Claims
+emit-premises-calls t = (rule-reads.Asked, rule-reads.Learnt, emit-premise-below t, emit-premise.Post)
+
 abbrev InLoop : ℕ → Type 0
-InLoop t = emit-premises-lts.In-loop (emit-premise-below t, emit-premise.Post) (emit-premises-at t) emit-premises.Post emit-premises-Inv-loop emit-premises-μ-loop
+InLoop t = emit-premises-lts.In-loop (emit-premises-calls t) (emit-premises-at t) emit-premises.Post emit-premises-Inv-loop emit-premises-μ-loop
+
+taken-now : (t : ℕ) (c : InLoop t) → c .before .loop .j < ruleFor (c .before .before .before .before .before .args .r) .premises
+taken-now t c = subst (λ (u : Rule). c .before .loop .j < u .premises) (c .before .before .before .rule .ensures) (c .loop-test .taken)
 
 -- the next premise can be made
 makes-now : (t : ℕ) (c : InLoop t) → let a = c .before .before .before .before .before .args in Makes (a .nodes .now) (a .items .now) (a .s) (a .r) (c .before .loop .p)
@@ -154,14 +165,14 @@ makes-now t c =
     let a = s .args in
     let h = s .pre .1 in
     let l = c .before .loop in
-    makes-next (a .nodes .now) (a .items .now) (a .s) (h .0 .good) (a .r) (h .0 .can) (l .j) (l .p) (l .inv .sum .next) (c .loop-test .taken)
+    makes-next (a .nodes .now) (a .items .now) (a .s) (h .0 .good) (a .r) (h .0 .can) (l .j) (l .p) (l .inv .sum .next) (taken-now t c)
 
 j-small : (t : ℕ) (c : InLoop t) → c .before .loop .j < 2
 j-small t c =
     let s = c .before .before .before .before .before in
     let a = s .args in
     let h = s .pre .1 in
-    omega (arith, c .loop-test .taken, few (a .nodes .now) (a .items .now) (a .s) (h .0 .good) (a .r) (h .0 .can) .two)
+    omega (arith, taken-now t c, few (a .nodes .now) (a .items .now) (a .s) (h .0 .good) (a .r) (h .0 .can) .two)
 
 pub +emit+emit-premise+emit-premises-spec : {M : Type 1} → statement M
 +emit+emit-premise+emit-premises-spec =
@@ -179,22 +190,24 @@ pub +emit+emit-premise+emit-premises-spec : {M : Type 1} → statement M
     let s = u .before .before .before .before in
     omega (arith, s .pre .1 .3, ap length (derivation-closed (sequentAt t s) (u .due .given .0 .0) (closed-now t u))))
     (λ c. search needs)
+    (λ c κs. search needs)
     (λ c κs.
-    let u = c .before .before in
-    let a = u .before .before .before .before .args in
-    let w = ready-now t u in
-    rw (command-made (a .nodes .now) (a .items .now) (a .s) (u .before .before .before .before .pre .1 .0) (reductionAt t u) (w .can)) (connective-range (compoundAt (a .nodes .now) (reductionAt t u .side) (reductionAt t u .at) (view (a .s) (a .items .now)) .connective) .1))
+    let u = c .before .before .before in
+    let s = u .before .before .before .before in
+    let a = s .args in
+    let r = reductionAt t u in
+    rw (c .command .ensures ∙ command-made (a .nodes .now) (a .items .now) (a .s) (s .pre .1 .0) r (ready-now t u .can)) (connective-range (compoundAt (a .nodes .now) (r .side) (r .at) (view (a .s) (a .items .now)) .connective) .1))
     (λ c.
-    let u = c .before .before .before .before in
+    let u = c .before .before .before .before .before in
     let s = u .before .before .before .before in
     let a = s .args in
     omega (arith, place-small (a .nodes .now) (a .items .now) (a .s) (s .pre .1 .0) (reductionAt t u) (ready-now t u .can)))
     (λ c κs.
-    let u = c .before .before .before .before in
+    let u = c .before .before .before .before .before in
     let s = u .before .before .before .before in
     omega (arith, s .pre .1 .3, ap length (command-now t u)))
     (λ c κs.
-    let u = c .before .before .before .before .before .before .before .before in
+    let u = c .before .before .before .before .before .before .before .before .before in
     let s = u .before .before .before .before in
     let a = s .args in
     let h = s .pre .1 in
@@ -218,14 +231,14 @@ pub +emit+emit-premise+emit-premises-spec : {M : Type 1} → statement M
     (omega (arith, p .0, ap length e), p .1 ∙ ap (sets (a .buffer .now) (a .at)) (sym e)))
     (λ c. c .before .before .emit-premises .kept .1 .1 .1 .1 .0 ∙ c .before .before .before .before .before .before .put2 .kept .0)
     (λ c.
-    let u = c .before .before .before .before .before .before .before .before .before .before .before in
+    let u = c .before .before .before .before .before .before .before .before .before .before .before .before in
     let s = u .before .before .before .before in
     let a = s .args in
     let r = reductionAt t u in
     let p = c .before .before .before .before .before .before .put2 .ensures in
     let e = c .before .before .emit-premises .ensures in
     let ds = derivations (premisesNow t u) in
-    let k = c .before .before .before .before .before .before .before .before .command-of .ensures (compoundAt (a .nodes .now) (r .side) (r .at) (view (a .s) (a .items .now)) .connective) (sym (command-made (a .nodes .now) (a .items .now) (a .s) (s .pre .1 .0) r (ready-now t u .can))) in (
+    let k = c .before .before .before .before .before .before .before .before .command-of .ensures (compoundAt (a .nodes .now) (r .side) (r .at) (view (a .s) (a .items .now)) .connective) (sym (c .before .before .before .before .before .before .before .before .before .command .ensures ∙ command-made (a .nodes .now) (a .items .now) (a .s) (s .pre .1 .0) r (ready-now t u .can))) in (
       omega (arith, e .end, p .0, ap length (command-now t u)),
       e .written ∙ ap (λ (i : ℕ). sets (c .before .before .before .before .before .before .put2 .last .0) i ds) (p .0) ∙ ap (λ (l : List ℕ). sets l (a .at + 2) ds) (p .1)
           ∙ ap (λ (b : ℕ). sets (sets (a .buffer .now) (a .at) (b ∷ r .at ∷ [])) (a .at + 2) ds) k
@@ -281,29 +294,35 @@ pub +emit+emit-premise+emit-premises-spec : {M : Type 1} → statement M
       stores = made-stores (a .nodes .now) (a .items .now) (a .s) (a .r) (a .p) (h .0) _ (m .last .1 .1 .0) (m .result) (m .ensures);
     }))
     λ t. emit-premises-lts.spec
-    (emit-premise-below t, emit-premise.Post)
+    (emit-premises-calls t)
     (emit-premises-at t)
     emit-premises.Post
     emit-premises-Inv-loop
     emit-premises-μ-loop
+    (λ c κs.
+    let s = c .before in
+    let a = s .args in
+    let h = s .pre .1 .0 in
+    (compoundAt (a .nodes .now) (a .r .side) (a .r .at) (view (a .s) (a .items .now)) .connective, sym (command-made (a .nodes .now) (a .items .now) (a .s) (h .good) (a .r) (h .can))))
     (λ c.
     let s = c .before .before .before in
     let a = s .args in
     let h = s .pre .1 in
-    ahead-starts (premiseBy (a .nodes .now) (a .items .now) (a .s) (a .r)) (a .r .rule) (few (a .nodes .now) (a .items .now) (a .s) (h .0 .good) (a .r) (h .0 .can)) (a .buffer .now) (a .at))
+    subst (λ (u : Rule). Ahead (premiseBy (a .nodes .now) (a .items .now) (a .s) (a .r)) (ruleFor (a .r)) (a .buffer .now) (a .at) 0 (a .at) 0 (a .buffer .now) (u .first)) (sym (c .before .rule .ensures))
+    (ahead-starts (premiseBy (a .nodes .now) (a .items .now) (a .s) (a .r)) (ruleFor (a .r)) (few (a .nodes .now) (a .items .now) (a .s) (h .0 .good) (a .r) (h .0 .can)) (a .buffer .now) (a .at)))
     (λ c κs.
     let s = c .before .before .before .before .before .before in
     let a = s .args in
     let h = s .pre .1 in
     let l = c .before .before .loop in
-    let taken = c .before .loop-test .taken in
+    let taken = taken-now t (c .before) in
     let all = premises-made (a .nodes .now) (a .items .now) (a .s) (h .0 .good) (a .r) (h .0 .can) in (
       omega (arith, s .pre .0),
       (
         makes-now t (c .before),
         h .0 .found,
-        next-provable (premiseBy (a .nodes .now) (a .items .now) (a .s) (a .r)) (a .r .rule) (few (a .nodes .now) (a .items .now) (a .s) (h .0 .good) (a .r) (h .0 .can)) (a .buffer .now) (a .at) (l .j) (l .end) (l .stores) (l .buffer) (l .p) (l .inv) (subst (Each Provable) (sym all) (h .1)) taken,
-        next-room (premiseBy (a .nodes .now) (a .items .now) (a .s) (a .r)) (a .r .rule) (few (a .nodes .now) (a .items .now) (a .s) (h .0 .good) (a .r) (h .0 .can)) (a .buffer .now) (a .at) (l .j) (l .end) (l .stores) (l .buffer) (l .p) (l .inv) taken (omega (arith, h .2, ap (λ (Ps : List Sequent). length (derivations Ps)) all)),
+        next-provable (premiseBy (a .nodes .now) (a .items .now) (a .s) (a .r)) (ruleFor (a .r)) (few (a .nodes .now) (a .items .now) (a .s) (h .0 .good) (a .r) (h .0 .can)) (a .buffer .now) (a .at) (l .j) (l .end) (l .stores) (l .buffer) (l .p) (l .inv) (subst (Each Provable) (sym all) (h .1)) taken,
+        next-room (premiseBy (a .nodes .now) (a .items .now) (a .s) (a .r)) (ruleFor (a .r)) (few (a .nodes .now) (a .items .now) (a .s) (h .0 .good) (a .r) (h .0 .can)) (a .buffer .now) (a .at) (l .j) (l .end) (l .stores) (l .buffer) (l .p) (l .inv) taken (omega (arith, h .2, ap (λ (Ps : List Sequent). length (derivations Ps)) all)),
       ),
     ))
     (λ c. omega (arith, c .before .before .before .emit-premise .ensures .stores, makes-now t (c .before .before .before .before .before) .small, j-small t (c .before .before .before .before .before), c .before .before .before .before .before .before .loop .inv .sum .small))
@@ -315,7 +334,8 @@ pub +emit+emit-premise+emit-premises-spec : {M : Type 1} → statement M
     let h = s .pre .1 in
     let l = c .before .before .before .before .before .before .before .loop in
     let e = c .before .before .before .before .emit-premise in
-    ahead-goes (premiseBy (a .nodes .now) (a .items .now) (a .s) (a .r)) (a .r .rule) (few (a .nodes .now) (a .items .now) (a .s) (h .0 .good) (a .r) (h .0 .can)) (a .buffer .now) (a .at) (l .j) (l .end) (l .stores) (l .buffer) (l .p) (l .inv) (c .before .before .before .before .before .before .loop-test .taken) (e .result) _ (e .ensures) (makes-now t (c .before .before .before .before .before .before) .small))
+    subst (λ (v : Rule). Ahead (premiseBy (a .nodes .now) (a .items .now) (a .s) (a .r)) (ruleFor (a .r)) (a .buffer .now) (a .at) (l .j + 1) (e .result .end) (l .stores + e .result .stores) (e .last .1 .1 .1 .1 .1 .0) (v .second)) (sym (c .before .before .before .before .before .before .before .before .before .rule .ensures))
+    (ahead-goes (premiseBy (a .nodes .now) (a .items .now) (a .s) (a .r)) (ruleFor (a .r)) (few (a .nodes .now) (a .items .now) (a .s) (h .0 .good) (a .r) (h .0 .can)) (a .buffer .now) (a .at) (l .j) (l .end) (l .stores) (l .buffer) (l .p) (l .inv) (taken-now t (c .before .before .before .before .before .before)) (e .result) _ (e .ensures) (makes-now t (c .before .before .before .before .before .before) .small)))
     (λ c. c .before .loop .inv .long)
     (λ c.
     let s = c .before .before .before .before .before in
@@ -323,4 +343,4 @@ pub +emit+emit-premise+emit-premises-spec : {M : Type 1} → statement M
     let h = s .pre .1 in
     let l = c .before .loop in
     rw (← premises-made (a .nodes .now) (a .items .now) (a .s) (h .0 .good) (a .r) (h .0 .can))
-    (ahead-ends (premiseBy (a .nodes .now) (a .items .now) (a .s) (a .r)) (a .r .rule) (few (a .nodes .now) (a .items .now) (a .s) (h .0 .good) (a .r) (h .0 .can)) (a .buffer .now) (a .at) (l .j) (l .end) (l .stores) (l .buffer) (l .p) (l .inv) (c .loop-test .left)))
+    (ahead-ends (premiseBy (a .nodes .now) (a .items .now) (a .s) (a .r)) (ruleFor (a .r)) (few (a .nodes .now) (a .items .now) (a .s) (h .0 .good) (a .r) (h .0 .can)) (a .buffer .now) (a .at) (l .j) (l .end) (l .stores) (l .buffer) (l .p) (l .inv) (subst (λ (u : Rule). u .premises ≤ l .j) (c .before .before .before .rule .ensures) (c .loop-test .left))))

@@ -45,27 +45,6 @@ reduction-spec =
     (λ c κs. search needs)
     (λ c. omega (arith, number-now c, compound-now (c .before .before .before) .inside))
     (λ c. omega (arith, number-now c, compound-now (c .before .before .before) .inside))
-    (λ c κs. search needs)
-    (λ c κs.
-    let s = c .before .before .before .before .before in
-    let k = compoundOf (formulaIn (s .args .nodes .now) (at-place s)) .connective in
-    let e : c .low .result ≡ code (CONNECTIVE k) = c .low .ensures ∙ ap (λ (w : ℕ). w % 256) (node-now (c .before .before)) ∙ compound-now s .command in
-    rw e (connective-range k))
-    (λ c κs. search needs)
-    (λ c κs. search needs)
     (λ c.
-    let s = c .before .before .before .before .before .before .before .before in
-    let a = s .args in
-    let d = at-place s in
-    let k = compoundOf (formulaIn (a .nodes .now) d) .connective in
-    let n = node-now (c .before .before .before .before .before) in
-    let b : c .before .before .before .low .result ≡ nodeOf (a .nodes .now) d % 256 = c .before .before .before .low .ensures ∙ ap (λ (w : ℕ). w % 256) n in
-    let r = c .before .before .rule-of .ensures k (sym (b ∙ compound-now s .command)) ∙ ap (λ (j : Connective). ruleOf j (a .side)) (sym (rule-connective (a .nodes .now) (s .pre .0 .nodes) d (compound-now s))) in
-    λ i. record {
-      side = a .side;
-      at = a .at;
-      connective = b i;
-      rule = r i;
-      f = (c .before .low2 .ensures ∙ ap firstOf n) i;
-      g = (c .low3 .ensures ∙ ap secondOf n) i;
-    }))
+    let s = c .before .before .before .before in
+    λ i. record { side = s .args .side; at = s .args .at; node = node-now (c .before) i }))
