@@ -4,7 +4,7 @@ use mathlib.Core.Path.{_≡_, refl, sym, ap, _∙_, subst}
 use mathlib.Core.Bool.{Bool, true, false, _&&_}
 use mathlib.Core.Option.{Option, none, some}
 use mathlib.Core.List.{List, [], _∷_}
-use Prim.Native.Nat.{ℕ, zero, suc, _≤_, _<_}
+use Prim.Native.Nat.{ℕ, zero, suc, _≤_, _<_, _%_}
 use native.Mathlib.Omega.{arith}
 use lib.Dec.{eqb}
 use lib.ListN.{length, getElem?, length-map}
@@ -77,17 +77,17 @@ module _ (T items : List ℕ) (s : Running) (good : Good T items s) (t : Side) (
       stands-there : named t i k (sequentOf T items s) (getElem? (on-side t (sequentOf T items s)) i) ≡ named t i k (sequentOf T items s) (some (whole x))
       stands-there = ap (named t i k (sequentOf T items s)) (stands T items s good t i h c)
 
-      command : r .connective ≡ code (CONNECTIVE (x .connective))
-      command = ap (λ (u : Reduction). u .connective) e ∙ compounded T items s good t i h c .command
+      command : r .node % 256 ≡ code (CONNECTIVE (x .connective))
+      command = ap (λ (u : Reduction). u .node % 256) e ∙ compounded T items s good t i h c .command
 
-      pub other-connective : (r .connective ≡ code (CONNECTIVE k) → ⊥) → Moves T items s at (obey (some (REDUCE t k)) n (sequentOf T items s)) (Stop (OtherConnective at))
+      pub other-connective : (r .node % 256 ≡ code (CONNECTIVE k) → ⊥) → Moves T items s at (obey (some (REDUCE t k)) n (sequentOf T items s)) (Stop (OtherConnective at))
       other-connective z = operand k (Stop (OtherConnective at)) (stands-there ∙ by (x .connective) (ne-eqb _ _ (λ d. z (command ∙ sym d))), refl)
         where
           by : (j : Connective) → eqb (code (CONNECTIVE k)) (code (CONNECTIVE j)) ≡ false → named t i k (sequentOf T items s) (some (compound j (x .f) (x .g))) ≡ fault OTHER-CONNECTIVE
           by NOT d = rw d
           by (two o) d = rw d
 
-      pub reduces : Roomy (sequentOf T items s) → r .connective ≡ code (CONNECTIVE k) → Moves T items s at (obey (some (REDUCE t k)) n (sequentOf T items s)) (Reduce r)
+      pub reduces : Roomy (sequentOf T items s) → r .node % 256 ≡ code (CONNECTIVE k) → Moves T items s at (obey (some (REDUCE t k)) n (sequentOf T items s)) (Reduce r)
       reduces roomy d =
           let j : k ≡ x .connective = same k (x .connective) (sym d ∙ command) in
           let w = roomy-premises t i x (sequentOf T items s) (stands T items s good t i h c) roomy in

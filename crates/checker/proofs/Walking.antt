@@ -17,7 +17,7 @@ use Rattle.sequent.specs.declared.Running.{Running}
 use Rattle.sequent.specs.declared.Reduction.{Reduction}
 use Rattle.sequent.specs.Rule.{placings}
 use Rattle.sequent.specs.View.{view, sequentOf, Good}
-use Rattle.sequent.specs.Compounds.{compoundAt, premiseBy, Reducible}
+use Rattle.sequent.specs.Compounds.{compoundAt, ruleFor, premiseBy, Reducible}
 use Rattle.sequent.proofs.Lists.{each-unmap}
 use Rattle.sequent.proofs.Placings.{OneOrTwo, Next, next-ends, next-each, Summed, sum-starts, sum-goes, sum-ends}
 use Rattle.sequent.proofs.Goods.{stands, premises-made, few}
@@ -116,8 +116,8 @@ module _ (d : List ℕ) (F : Placing → Sequent) (r : Rule) (count : OneOrTwo r
 
 -- the next premise leaves room again
 pub roomy-next : (T items : List ℕ) (s : Running) (good : Good T items s) → Roomy (sequentOf T items s) → (r : Reduction) (can : Reducible T items s r)
-    → (j : ℕ) (p : Placing) → Next (r .rule) j p → j < r .rule .premises → Roomy (premiseBy T items s r p)
+    → (j : ℕ) (p : Placing) → Next (ruleFor r) j p → j < ruleFor r .premises → Roomy (premiseBy T items s r p)
 roomy-next T items s good roomy r can =
-    next-each (r .rule) (few T items s good r can) (λ p. Roomy (premiseBy T items s r p))
-    (each-unmap (premiseBy T items s r) Roomy (placings (r .rule)) (subst (Each Roomy) (sym (premises-made T items s good r can))
+    next-each (ruleFor r) (few T items s good r can) (λ p. Roomy (premiseBy T items s r p))
+    (each-unmap (premiseBy T items s r) Roomy (placings (ruleFor r)) (subst (Each Roomy) (sym (premises-made T items s good r can))
     (roomy-premises (r .side) (r .at) (compoundAt T (r .side) (r .at) (view s items)) (sequentOf T items s) (stands T items s good (r .side) (r .at) (can .inside) (can .compound)) roomy)))

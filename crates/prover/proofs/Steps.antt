@@ -7,7 +7,7 @@ use mathlib.Core.List.{List, [], _∷_}
 use Prim.Native.Nat.{ℕ, zero, suc, _+_, _%_, _≤_, _<_}
 use native.Mathlib.Omega.{arith}
 use lib.Dec.{ltb}
-use borrow.Author.Tests.{lt-ltb, le-ltb, eq-eqb, ne-eqb, ltb-false}
+use borrow.Author.Tests.{ltb-false}
 use Rattle.calculus.specs.declared.Side.{Side}
 use Rattle.calculus.specs.declared.Side.the-variants.{Left, Right}
 use Rattle.calculus.specs.Fold.{fold, ANY, Each, choose}
@@ -17,11 +17,10 @@ use Rattle.calculus.specs.Bytes.{CONNECTIVE, code}
 use Rattle.calculus.specs.Table.{premises}
 use Rattle.calculus.specs.Tree.{letters, state, closing, first, due, tests, full, reduced, isClosed, isOpen, isFull, isSpent, isDue, afford, inner}
 use Rattle.calculus.proofs.Folds.{or-false-both}
-use Rattle.sequent.specs.declared.Rule.{Rule}
 use Rattle.sequent.specs.declared.Running.{Running}
 use Rattle.sequent.specs.declared.Reduction.{Reduction}
 use Rattle.sequent.specs.declared.Place.the-variants.{At, Nowhere}
-use Rattle.sequent.specs.Rule.{premiseOf, overfullOf}
+use Rattle.sequent.specs.Rule.{overfullOf}
 use Rattle.sequent.specs.View.{view, countOf, nameAt, sequentOf, Good}
 use Rattle.sequent.specs.Compounds.{Found, compoundAt, ruleFor, reductionAt}
 use Rattle.sequent.proofs.Restarts.{found-inside, found-name}

@@ -9,9 +9,10 @@ use borrow.Fn.Kinds.{In}
 use borrow.Fn.PlainCycle.{Measures, is, falls, and}
 use Rattle.calculus.specs.Syntax.{Sequent, c as connectivesOf}
 use Rattle.calculus.specs.Derivation.{obey, order}
-use Rattle.sequent.specs.View.{sequentOf}
-use Rattle.sequent.specs.Compounds.{premiseBy, Makes}
-use Rattle.sequent.proofs.Goods.{premises-made, few, makes-next, premise-asks, made-is, made-good, made-stores}
+use Rattle.sequent.specs.declared.Rule.{Rule}
+use Rattle.sequent.specs.View.{view, sequentOf}
+use Rattle.sequent.specs.Compounds.{premiseBy, Makes, compoundAt, ruleFor}
+use Rattle.sequent.proofs.Goods.{premises-made, few, makes-next, premise-asks, made-is, made-good, made-stores, command-made}
 use Rattle.checker.specs.declared.Move.the-variants.{Reduce}
 use Rattle.checker.specs.Walks.{Roomy, Moves, Walks}
 use Rattle.checker.proofs.Walking.{cut-short, walk-stopped, walk-closed, walk-reduced, Ahead, ahead-starts, ahead-goes, ahead-stops, ahead-ends, roomy-next}
@@ -26,6 +27,7 @@ use Rattle.checker.proofs.walk_premises.Kinds as walk-premises-kinds
 use Rattle.checker.proofs.+walk+walk_premise+walk_premises.Lts-walk_premises as walk-premises-lts
 use Rattle.checker.proofs.obey.Reads as obey-reads
 use Rattle.sequent.proofs.Running.premise.Reads as premise-reads
+use Rattle.sequent.proofs.Reduction.rule.Reads as rule-reads
 use Rattle.checker.proofs.+walk+walk_premise+walk_premises.{statement}
 use Rattle.checker.proofs.+walk+walk_premise+walk_premises.Tie.{close}
 
@@ -86,13 +88,19 @@ found-now t c = rw (c .before .next2 .given .1) at (c .before .before .before .o
 
 abbrev walk-premises-Inv-loop : walk-premises-lts.InvT-loop
 walk-premises-Inv-loop nodes items d s r at rule n p₀ end₀ stores₀ j₀ p end stores j =
-    Ahead d (premiseBy nodes items s r) (r .rule) at j end stores p
+    Ahead d (premiseBy nodes items s r) (ruleFor r) at j end stores p
 
 abbrev walk-premises-μ-loop : walk-premises-lts.MeasureT-loop
 walk-premises-μ-loop nodes items d s r at rule n p₀ end₀ stores₀ j₀ p end stores j = n - j
 
+abbrev walk-premises-calls : ℕ → walk-premises-lts.Claims
+walk-premises-calls t = (rule-reads.Asked, rule-reads.Learnt, walk-premise-below t, walk-premise.Post)
+
 abbrev InLoop : ℕ → Type 0
-InLoop t = walk-premises-lts.In-loop (walk-premise-below t, walk-premise.Post) (walk-premises-at t) walk-premises.Post walk-premises-Inv-loop walk-premises-μ-loop
+InLoop t = walk-premises-lts.In-loop (walk-premises-calls t) (walk-premises-at t) walk-premises.Post walk-premises-Inv-loop walk-premises-μ-loop
+
+taken-now : (t : ℕ) (c : InLoop t) → c .before .loop .j < ruleFor (c .before .before .before .before .before .args .r) .premises
+taken-now t c = subst (λ (u : Rule). c .before .loop .j < u .premises) (c .before .before .before .rule .ensures) (c .loop-test .taken)
 
 -- the next premise can be made
 makes-now : (t : ℕ) (c : InLoop t) → let a = c .before .before .before .before .before .args in Makes (a .nodes .now) (a .items .now) (a .s) (a .r) (c .before .loop .p)
@@ -101,14 +109,14 @@ makes-now t c =
     let a = s .args in
     let h = s .pre .1 in
     let l = c .before .loop in
-    makes-next (a .nodes .now) (a .items .now) (a .s) (h .0) (a .r) (h .2) (l .j) (l .p) (l .inv .sum .next) (c .loop-test .taken)
+    makes-next (a .nodes .now) (a .items .now) (a .s) (h .0) (a .r) (h .2) (l .j) (l .p) (l .inv .sum .next) (taken-now t c)
 
 j-small : (t : ℕ) (c : InLoop t) → c .before .loop .j < 2
 j-small t c =
     let s = c .before .before .before .before .before in
     let a = s .args in
     let h = s .pre .1 in
-    omega (arith, c .loop-test .taken, few (a .nodes .now) (a .items .now) (a .s) (h .0) (a .r) (h .2) .two)
+    omega (arith, taken-now t c, few (a .nodes .now) (a .items .now) (a .s) (h .0) (a .r) (h .2) .two)
 
 pub +walk+walk-premise+walk-premises-spec : {M : Type 1} → statement M
 +walk+walk-premise+walk-premises-spec =
@@ -177,16 +185,22 @@ pub +walk+walk-premise+walk-premises-spec : {M : Type 1} → statement M
       made-stores (a .nodes .now) (a .items .now) (a .s) (a .r) (a .p) (h .0) _ (m .last .1 .1 .0) (m .result) (m .ensures),
     )))
     λ t. walk-premises-lts.spec
-    (walk-premise-below t, walk-premise.Post)
+    (walk-premises-calls t)
     (walk-premises-at t)
     walk-premises.Post
     walk-premises-Inv-loop
     walk-premises-μ-loop
+    (λ c κs.
+    let s = c .before in
+    let a = s .args in
+    let h = s .pre .1 in
+    (compoundAt (a .nodes .now) (a .r .side) (a .r .at) (view (a .s) (a .items .now)) .connective, sym (command-made (a .nodes .now) (a .items .now) (a .s) (h .0) (a .r) (h .2))))
     (λ c.
     let s = c .before .before .before in
     let a = s .args in
     let h = s .pre .1 in
-    ahead-starts (a .d .now) (premiseBy (a .nodes .now) (a .items .now) (a .s) (a .r)) (a .r .rule) (few (a .nodes .now) (a .items .now) (a .s) (h .0) (a .r) (h .2)) (a .at) (h .3))
+    subst (λ (u : Rule). Ahead (a .d .now) (premiseBy (a .nodes .now) (a .items .now) (a .s) (a .r)) (ruleFor (a .r)) (a .at) 0 (a .at) 0 (u .first)) (sym (c .before .rule .ensures))
+    (ahead-starts (a .d .now) (premiseBy (a .nodes .now) (a .items .now) (a .s) (a .r)) (ruleFor (a .r)) (few (a .nodes .now) (a .items .now) (a .s) (h .0) (a .r) (h .2)) (a .at) (h .3)))
     (λ c κs.
     let s = c .before .before .before .before .before in
     let a = s .args in
@@ -195,7 +209,7 @@ pub +walk+walk-premise+walk-premises-spec : {M : Type 1} → statement M
       omega (arith, s .pre .0),
       (
         makes-now t c,
-        roomy-next (a .nodes .now) (a .items .now) (a .s) (h .0) (h .1) (a .r) (h .2) (l .j) (l .p) (l .inv .sum .next) (c .loop-test .taken),
+        roomy-next (a .nodes .now) (a .items .now) (a .s) (h .0) (h .1) (a .r) (h .2) (l .j) (l .p) (l .inv .sum .next) (taken-now t c),
         omega arith,
       ),
     ))
@@ -209,7 +223,7 @@ pub +walk+walk-premise+walk-premises-spec : {M : Type 1} → statement M
     let l = c .before .before .before .before .before .before .loop in
     let u = c .before .before .before .before .walk-premise in
     rw (← premises-made (a .nodes .now) (a .items .now) (a .s) (h .0) (a .r) (h .2))
-    (ahead-stops (a .d .now) (premiseBy (a .nodes .now) (a .items .now) (a .s) (a .r)) (a .r .rule) (few (a .nodes .now) (a .items .now) (a .s) (h .0) (a .r) (h .2)) (a .at) (l .j) (l .end) (l .stores) (l .p) (l .inv) (c .before .before .before .before .before .loop-test .taken)
+    (ahead-stops (a .d .now) (premiseBy (a .nodes .now) (a .items .now) (a .s) (a .r)) (ruleFor (a .r)) (few (a .nodes .now) (a .items .now) (a .s) (h .0) (a .r) (h .2)) (a .at) (l .j) (l .end) (l .stores) (l .p) (l .inv) (taken-now t (c .before .before .before .before .before))
     (c .before .walked2 .given .0 .0) (u .result .stores) (rw (c .before .walked2 .given .1) at (u .ensures .0)) (u .ensures .1) (makes-now t (c .before .before .before .before .before) .small)))
     (λ c. omega (arith, j-small t (c .before .before .before .before .before .before)))
     (λ c. omega (arith, c .before .before .before .before .before .before .loop-test .taken))
@@ -219,12 +233,13 @@ pub +walk+walk-premise+walk-premises-spec : {M : Type 1} → statement M
     let h = s .pre .1 in
     let l = c .before .before .before .before .before .before .before .loop in
     let u = c .before .before .before .before .before .walk-premise in
-    ahead-goes (a .d .now) (premiseBy (a .nodes .now) (a .items .now) (a .s) (a .r)) (a .r .rule) (few (a .nodes .now) (a .items .now) (a .s) (h .0) (a .r) (h .2)) (a .at) (l .j) (l .end) (l .stores) (l .p) (l .inv) (c .before .before .before .before .before .before .loop-test .taken)
-    (c .before .before .walked .given .0 .0) (u .result .stores) (rw (c .before .before .walked .given .1) at (u .ensures .0)) (u .ensures .1) (makes-now t (c .before .before .before .before .before .before) .small))
+    subst (λ (v : Rule). Ahead (a .d .now) (premiseBy (a .nodes .now) (a .items .now) (a .s) (a .r)) (ruleFor (a .r)) (a .at) (l .j + 1) (c .before .before .walked .given .0 .0) (l .stores + u .result .stores) (v .second)) (sym (c .before .before .before .before .before .before .before .before .before .rule .ensures))
+    (ahead-goes (a .d .now) (premiseBy (a .nodes .now) (a .items .now) (a .s) (a .r)) (ruleFor (a .r)) (few (a .nodes .now) (a .items .now) (a .s) (h .0) (a .r) (h .2)) (a .at) (l .j) (l .end) (l .stores) (l .p) (l .inv) (taken-now t (c .before .before .before .before .before .before))
+    (c .before .before .walked .given .0 .0) (u .result .stores) (rw (c .before .before .walked .given .1) at (u .ensures .0)) (u .ensures .1) (makes-now t (c .before .before .before .before .before .before) .small)))
     (λ c.
     let s = c .before .before .before .before .before in
     let a = s .args in
     let h = s .pre .1 in
     let l = c .before .loop in
     rw (← premises-made (a .nodes .now) (a .items .now) (a .s) (h .0) (a .r) (h .2))
-    (ahead-ends (a .d .now) (premiseBy (a .nodes .now) (a .items .now) (a .s) (a .r)) (a .r .rule) (few (a .nodes .now) (a .items .now) (a .s) (h .0) (a .r) (h .2)) (a .at) (l .j) (l .end) (l .stores) (l .p) (l .inv) (c .loop-test .left)))
+    (ahead-ends (a .d .now) (premiseBy (a .nodes .now) (a .items .now) (a .s) (a .r)) (ruleFor (a .r)) (few (a .nodes .now) (a .items .now) (a .s) (h .0) (a .r) (h .2)) (a .at) (l .j) (l .end) (l .stores) (l .p) (l .inv) (subst (λ (u : Rule). u .premises ≤ l .j) (c .before .before .before .rule .ensures) (c .loop-test .left))))

@@ -47,15 +47,16 @@ formula-named-spec =
     let i = c .before .before .before .before .before .wide in
     a-letter (a .nodes .now) (a .items .now) (a .s) (s .pre .0) (a .side) (i .result) (a .place) (a .at) (i .ensures) (inside (c .before .before .before)) k (omega (arith, c .if2 .taken, name-now (c .before .before))))
     (λ c κs. (c .before .before .before .before .before .before .pre .0, inside (c .before .before .before), compound-now c))
+    (λ c κs. search needs)
     (λ c k e.
     let s = c .before .before .before .before .before .before .before .before .before in
     let a = s .args in
     let i = c .before .before .before .before .before .before .before .before .wide in
-    let u = c .before .before in
-    other-connective (a .nodes .now) (a .items .now) (a .s) (s .pre .0) (a .side) (i .result) (a .place) (a .at) (i .ensures) (inside (u .before .before .before .before)) k (compound-now (u .before)) (u .reduction .result) (u .reduction .ensures) (λ d. c .if3 .taken (d ∙ e)))
+    let u = c .before .before .reduction in
+    other-connective (a .nodes .now) (a .items .now) (a .s) (s .pre .0) (a .side) (i .result) (a .place) (a .at) (i .ensures) (inside (c .before .before .before .before .before .before)) k (compound-now (c .before .before .before)) (u .result) (u .ensures) (λ d. c .if3 .taken (c .before .command .ensures ∙ d ∙ e)))
     (λ c k e.
     let s = c .before .before .before .before .before .before .before .before .before in
     let a = s .args in
     let i = c .before .before .before .before .before .before .before .before .wide in
-    let u = c .before .before in
-    reduces (a .nodes .now) (a .items .now) (a .s) (s .pre .0) (a .side) (i .result) (a .place) (a .at) (i .ensures) (inside (u .before .before .before .before)) k (compound-now (u .before)) (u .reduction .result) (u .reduction .ensures) (s .pre .1) (c .if3 .left ∙ sym e)))
+    let u = c .before .before .reduction in
+    reduces (a .nodes .now) (a .items .now) (a .s) (s .pre .0) (a .side) (i .result) (a .place) (a .at) (i .ensures) (inside (c .before .before .before .before .before .before)) k (compound-now (c .before .before .before)) (u .result) (u .ensures) (s .pre .1) (sym (c .before .command .ensures) ∙ c .if3 .left ∙ sym e)))

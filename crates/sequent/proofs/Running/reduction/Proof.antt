@@ -1,18 +1,13 @@
-use mathlib.Core.Path.{_≡_, sym, ap, _∙_}
-use Prim.Native.Nat.{ℕ, _-_, _%_}
+use mathlib.Core.Path.{_≡_, ap, _∙_}
+use Prim.Native.Nat.{ℕ, _-_}
 use native.Mathlib.Omega.{arith}
 use borrow.Author.Needs.{needs}
 use lib.ListN.{getD}
-use Rattle.calculus.specs.Bytes.{CONNECTIVE, code}
 use Rattle.calculus.specs.Limits.{LETTERS}
-use Rattle.calculus.specs.Syntax.{Connective}
-use Rattle.question.proofs.Readers.{connective-range}
-use Rattle.sequent.specs.Names.{nodeOf, firstOf, secondOf, formulaIn}
-use Rattle.sequent.specs.Rule.{ruleOf}
+use Rattle.sequent.specs.Names.{nodeOf}
 use Rattle.sequent.specs.View.{view, nameAt}
-use Rattle.sequent.specs.Compounds.{compoundOf}
 use Rattle.sequent.proofs.Goods.{slot-name, compounded}
-use Rattle.sequent.proofs.Namings.{Compounded, rule-connective}
+use Rattle.sequent.proofs.Namings.{Compounded}
 use Rattle.sequent.proofs.Running.reduction.Statement.{statement}
 use Rattle.sequent.proofs.Running.reduction.Tie as tie
 
