@@ -428,14 +428,16 @@ impl Running {
 }
 
 impl Running {
-    // A premise of a reduction: the names f and g of its parts go where p says.
+    // A premise of a reduction: the names of its two parts go where p says.
     pub fn premise(self, old: &[u8; 80], new: &mut [u8; 80], r: Reduction, p: Placing) -> Built
         requires { ⌜
             (r .at < countOf (r .side) self)
             × (self .lefts + self .rights ≤ ROOM)
             × (length (now old) ≡ ROOM)
             × (length (now new) ≡ ROOM)
-            × (size (premise (r .side) (r .at) (view self (now old)) (placed p (firstOf (r .node)) (secondOf (r .node)))) ≤ ROOM) ⌝ }
+            × (size
+            (premise (r .side) (r .at) (view self (now old)) (placed p (firstOf (r .node)) (secondOf (r .node))))
+            ≤ ROOM) ⌝ }
         ensures { λ b. ⌜
             Builds
             (r .side)
