@@ -1,10 +1,11 @@
 -- The verdict is right, and the counts are within the width. W is at most 2 to the power c.
 -- Assumes nothing.
-use mathlib.Core.Path.{_≡_, refl, sym, _∙_, fun-ext}
+use mathlib.Core.Path.{_≡_, refl, sym, ap, _∙_, fun-ext}
 use mathlib.Core.Logic.{_≢_, _↔_}
-use mathlib.Core.Bool.{Bool, true, false, _&&_, false≢true}
+use mathlib.Core.Bool.{Bool, true, false, not, _&&_, false≢true}
+use mathlib.Core.Option.{Option}
 use mathlib.Core.List.{List, [], _∷_}
-use Prim.Native.Nat.{ℕ, _+_, _*_, _^_, _≤_, _<_}
+use Prim.Native.Nat.{ℕ, suc, _+_, _*_, _^_, _≤_, _<_}
 use native.Mathlib.Nat.{pow-suc, le-mul-of-pos-right, mul-comm, mul-add, one-le-mul, mul-le-mul, mul-le-mul-right, le-refl, add-mul}
 use native.Mathlib.Omega.{arith}
 use borrow.Author.Tests.{not-false}
@@ -18,12 +19,12 @@ use Rattle.calculus.specs.Limits.{ROOM}
 use Rattle.calculus.specs.Syntax.{other, Binary, AND, OR, IMPLIES, EQUIV, Formula, letter, neg, join, Sequent, over, connectives, c, size}
 use Rattle.calculus.specs.Truth.{value, says, truth, Valid}
 use Rattle.calculus.specs.Table.{premises}
-use Rattle.calculus.specs.Tree.{Step, closed, opened, full, reduced, Event, Tree, follow, chain, grow, tree, isReduce, isClose, reductions, closings}
+use Rattle.calculus.specs.Tree.{Way, closing, Step, closed, opened, full, reduced, Event, Tree, follow, chain, grow, treeBy, tree, isReduce, isClose, reductions, closings}
 use Rattle.calculus.specs.Width.{wide, width, W}
 use Rattle.calculus.proofs.Folds.{fold-append, or-false-both, each-false}
 use Rattle.calculus.proofs.Rules.{weight}
 use Rattle.calculus.proofs.Sequents.{truth-premises, width-premises, weight-size, Smaller, smaller}
-use Rattle.calculus.proofs.Trees.{Right-step, closed-true, tree-ind}
+use Rattle.calculus.proofs.Trees.{Sound, closing-sound, Right-step, closed-true, treeBy-ind}
 
 -- ---- a width is at least 1
 
@@ -123,21 +124,24 @@ chain-fine r S h (P ∷ Ps) l =
       used = omega (arith, follow-used (r P .events) (r P .end) (chain r Ps), mul-add (c S) (W P) (fold SUM W Ps), mul-le-mul-right (W P) (l .0 .0), p .used, q .used);
     }
 
-grow-fine : (S : Sequent) (t : Step) → Right-step S t → ((P : Sequent) → Smaller S P → Fine P (tree P)) → Fine S (grow tree S t)
-grow-fine S (closed k) p h = record { verdict = closed-true S k p; leaves = W-pos S; used = omega (arith, add-mul 1 (c S) (W S)) }
-grow-fine S (opened σ) p h = record { verdict = p; leaves = W-pos S; used = omega (arith, add-mul 1 (c S) (W S)) }
-grow-fine S full p h = record { verdict = p; leaves = W-pos S; used = omega (arith, add-mul 1 (c S) (W S)) }
-grow-fine S (reduced s i x) p h =
+grow-fine : (r : Sequent → Tree) (S : Sequent) (t : Step) → Right-step S t → ((P : Sequent) → Smaller S P → Fine P (r P)) → Fine S (grow r S t)
+grow-fine r S (closed w) p h = record { verdict = closed-true S w p; leaves = W-pos S; used = omega (arith, add-mul 1 (c S) (W S)) }
+grow-fine r S (opened σ) p h = record { verdict = p; leaves = W-pos S; used = omega (arith, add-mul 1 (c S) (W S)) }
+grow-fine r S full p h = record { verdict = p; leaves = W-pos S; used = omega (arith, add-mul 1 (c S) (W S)) }
+grow-fine r S (reduced s i x) p h =
     let e = width-premises s i x S p in
-    let q = chain-fine tree S h (premises s i x S) (smaller s i x S p) in
+    let q = chain-fine r S h (premises s i x S) (smaller s i x S p) in
     record {
       verdict = rw (fun-ext (λ (σ : ℕ). truth-premises σ s i x S p)) (q .verdict);
       leaves = omega (arith, e, q .leaves);
       used = omega (arith, add-mul 1 (c S) (W S), W-pos S, e, rw (← e) at (q .used));
     }
 
+pub treeBy-fine : (t : Sequent → Option Way) → Sound t → (S : Sequent) → Fine S (treeBy t S)
+treeBy-fine t f = treeBy-ind t f Fine (grow-fine (treeBy t))
+
 pub tree-fine : (S : Sequent) → Fine S (tree S)
-tree-fine = tree-ind Fine grow-fine
+tree-fine = treeBy-fine closing closing-sound
 
 -- ---- as document 01 has it
 

@@ -15,7 +15,7 @@ use Rattle.calculus.specs.declared.Verdict.{Verdict}
 use Rattle.calculus.specs.Fold.{Each}
 use Rattle.calculus.specs.Syntax.{Sequent, c}
 use Rattle.calculus.specs.Table.{premises}
-use Rattle.calculus.specs.Tree.{Step, closed, opened, full, reduced, step, Event, close, reduce, Tree, follow, chain, grow, tree, reductions, closings, oneMore, spend, outcome, verdict, closingsBefore, afford, inner, andThen, pass, act, runBy, run}
+use Rattle.calculus.specs.Tree.{Step, closed, opened, full, reduced, step, Event, close, reduce, Tree, follow, chain, grow, tree, reductions, closings, pairings, oneMore, spend, outcome, verdict, closingsBefore, afford, inner, andThen, pass, act, runBy, run}
 use Rattle.calculus.proofs.Folds.{each}
 use Rattle.calculus.proofs.Sequents.{Smaller, smaller}
 use Rattle.calculus.proofs.Trees.{Right-step, right-step, tree-grows}
@@ -25,24 +25,24 @@ use Rattle.calculus.proofs.Bounds.{never-spent}
 
 -- a budget that suffices: the tree's end and its counts
 pub spend-whole : (b : ℕ) (es : List Event) (e : Kind) → reductions es ≤ b
-    → spend b es e ≡ record { kind = e; unspent = b - reductions es; closings = closings es }
+    → spend b es e ≡ record { kind = e; unspent = b - reductions es; closings = closings es; pairings = pairings es }
 spend-whole b [] e h = rw sub-zero
-spend-whole b (close k ∷ es) e h = rw (spend-whole b es e (omega arith), zero-add)
+spend-whole b (close w ∷ es) e h = rw (spend-whole b es e (omega arith), zero-add)
 spend-whole zero (reduce s i k ∷ es) e h = absurd (omega arith)
 spend-whole (suc b) (reduce s i k ∷ es) e h =
     let q : suc b - (1 + reductions es) ≡ b - reductions es = omega arith in
-    rw (q, zero-add) (spend-whole b es e (omega arith))
+    rw (q, zero-add (closings es), zero-add (pairings es)) (spend-whole b es e (omega arith))
 
 -- one that does not: SPENT, and nothing is left
 pub spend-spent : (b : ℕ) (es : List Event) (e : Kind) → b < reductions es → (spend b es e .kind ≡ Spent) × (spend b es e .unspent ≡ 0)
 spend-spent b [] e h = absurd (omega arith)
-spend-spent b (close k ∷ es) e h = spend-spent b es e (omega arith)
+spend-spent b (close w ∷ es) e h = spend-spent b es e (omega arith)
 spend-spent zero (reduce s i k ∷ es) e h = (refl, refl)
 spend-spent (suc b) (reduce s i k ∷ es) e h = spend-spent b es e (omega arith)
 
 pub spend-closings : (b : ℕ) (es : List Event) (e : Kind) → spend b es e .closings ≡ closingsBefore b es
 spend-closings b [] e = refl
-spend-closings b (close k ∷ es) e = rw (spend-closings b es e)
+spend-closings b (close w ∷ es) e = rw (spend-closings b es e)
 spend-closings zero (reduce s i k ∷ es) e = refl
 spend-closings (suc b) (reduce s i k ∷ es) e = spend-closings b es e
 
@@ -55,6 +55,13 @@ spent-exactly b S = (λ e. go e (decLt b (reductions (tree S .events))), λ h. s
     go e (no h) =
         let k = ap (λ (o : Outcome). o .kind) (spend-whole b (tree S .events) (tree S .end) (omega arith)) in
         absurd (never-spent S (sym k ∙ e))
+
+-- where it is a theorem, the budget sufficed
+pub theorem-whole : (b : ℕ) (S : Sequent) → outcome b S .kind ≡ Theorem → reductions (tree S .events) ≤ b
+theorem-whole b S e = elim (decLt b (reductions (tree S .events))) [ yes h ↦ absurd (spent-no (sym (spend-spent b (tree S .events) (tree S .end) h .0) ∙ e)) | no h ↦ omega arith ]
+  where
+    spent-no : Spent ≡ Theorem → ⊥
+    spent-no q = let z : _≡_ {A = ℕ} 0 1 = cc in omega arith
 
 -- it then reports its budget as reductions, and the closings before the tree's next reduction
 pub spent-verdict : (b : ℕ) (S : Sequent) → b < reductions (tree S .events)
@@ -85,7 +92,7 @@ verdict-end b S e h n = ap (λ (v : Verdict). v .kind) (sym (whole-verdict b S (
 -- the budget bounds what is left
 pub spend-left : (b : ℕ) (es : List Event) (e : Kind) → spend b es e .unspent ≤ b
 spend-left b [] e = omega arith
-spend-left b (close k ∷ es) e = spend-left b es e
+spend-left b (close w ∷ es) e = spend-left b es e
 spend-left zero (reduce s i k ∷ es) e = omega arith
 spend-left (suc b) (reduce s i k ∷ es) e = omega (arith, spend-left b es e)
 
@@ -93,11 +100,11 @@ spend-left (suc b) (reduce s i k ∷ es) e = omega (arith, spend-left b es e)
 
 spend-append : (b : ℕ) (es fs : List Event) (e : Kind)
     → spend b (es ++ fs) e ≡ andThen (spend b es Theorem .kind) (spend b es Theorem) (λ l. spend l fs e)
-spend-append b [] fs e = rw zero-add
-spend-append b (close k ∷ es) fs e = rw (spend-append b es fs e) (count-after (spend b es Theorem .kind) (spend b es Theorem) (λ l. spend l fs e))
+spend-append b [] fs e = simp zero-add
+spend-append b (close w ∷ es) fs e = rw (spend-append b es fs e) (count-after (spend b es Theorem .kind) (spend b es Theorem) (λ l. spend l fs e))
   where
-    count-after : (q : Kind) (o : Outcome) (u : ℕ → Outcome) → oneMore (andThen q o u) ≡ andThen q (oneMore o) u
-    count-after Theorem o u = rw add-assoc
+    count-after : (q : Kind) (o : Outcome) (u : ℕ → Outcome) → oneMore w (andThen q o u) ≡ andThen q (oneMore w o) u
+    count-after Theorem o u = simp (oneMore, add-assoc)
     count-after (Refuted σ) o u = refl
     count-after Spent o u = refl
     count-after Full o u = refl
@@ -107,7 +114,7 @@ spend-append (suc b) (reduce s i k ∷ es) fs e = spend-append b es fs e
 spend-stop : (b : ℕ) (es : List Event) (e : Kind) → ((o : Outcome) (u : ℕ → Outcome) → andThen e o u ≡ o) → (o : Outcome) (u : ℕ → Outcome)
     → andThen (spend b es e .kind) o u ≡ o
 spend-stop b [] e h = h
-spend-stop b (close k ∷ es) e h = spend-stop b es e h
+spend-stop b (close w ∷ es) e h = spend-stop b es e h
 spend-stop zero (reduce s i k ∷ es) e h = λ o u. refl
 spend-stop (suc b) (reduce s i k ∷ es) e h = spend-stop b es e h
 
@@ -126,7 +133,7 @@ spend-chain r b (P ∷ Ps) =
     ∙ ap (andThen (spend b (r P .events) (r P .end) .kind) (spend b (r P .events) (r P .end))) (fun-ext (λ l. spend-chain r l Ps))
 
 outcome-act : (b : ℕ) (S : Sequent) (t : Step) → spend b (grow tree S t .events) (grow tree S t .end) ≡ act outcome b S (afford b t)
-outcome-act b S (closed k) = refl
+outcome-act b S (closed w) = refl
 outcome-act b S (opened σ) = refl
 outcome-act b S full = refl
 outcome-act zero S (reduced s i x) = refl
@@ -144,7 +151,7 @@ pass-same r q b (P ∷ Ps) h =
 
 act-same : (r : ℕ → Sequent → Outcome) (b : ℕ) (S : Sequent) → ((l : ℕ) (P : Sequent) → Smaller S P → r l P ≡ outcome l P) → (t : Step)
     → Right-step S t → act r b S (afford b t) ≡ act outcome b S (afford b t)
-act-same r b S h (closed k) p = refl
+act-same r b S h (closed w) p = refl
 act-same r b S h (opened σ) p = refl
 act-same r b S h full p = refl
 act-same r zero S h (reduced s i x) p = refl

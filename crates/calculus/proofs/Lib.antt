@@ -14,3 +14,4 @@ pub mod Letters
 pub mod States
 pub mod Refutations
 pub mod Cases
+pub mod Savings

@@ -1,21 +1,23 @@
 -- What bytes spell: formulas and sequents come back from their encoding.
 -- Assumes nothing.
 use mathlib.Core.Path.{_≡_, refl, sym, ap, _∙_}
-use mathlib.Core.Option.{some}
+use mathlib.Core.Logic.{_↔_}
+use mathlib.Core.Bool.{true, false, false≢true}
+use mathlib.Core.Option.{none, some}
 use mathlib.Core.List.{List, [], _∷_, _++_, append-assoc, append-nil}
 use Prim.Native.Nat.{ℕ, _+_, _*_, _≤_}
 use native.Mathlib.Omega.{arith}
 use lib.Dec.{eqb}
 use lib.ListN.{length, drop, length-append}
 use lib.Seq.{drop-append-add}
-use borrow.Author.Tests.{eqb-true}
+use borrow.Author.Tests.{eqb-true, eq-eqb}
 use Rattle.calculus.specs.declared.Side.{Side}
 use Rattle.calculus.specs.declared.Side.the-variants.{Left, Right}
 use Rattle.calculus.specs.Fold.{fold, SUM}
 use Rattle.calculus.specs.Limits.{LONGEST}
 use Rattle.calculus.specs.Syntax.{AND, OR, IMPLIES, EQUIV, Connective, NOT, two, Formula, letter, neg, join, Sequent, connectives}
-use Rattle.calculus.specs.Bytes.{Command, SIDE, LETTER, CONNECTIVE, code, commands, command, encode, encodeAll, encodeSide, encodeSequent, attach, formulas, bytes, bytesAll, question, Within}
-use Rattle.calculus.proofs.Folds.{found}
+use Rattle.calculus.specs.Bytes.{Command, SIDE, LETTER, CONNECTIVE, code, commands, command, encode, same, encodeAll, encodeSide, encodeSequent, attach, spell, formulas, bytes, bytesAll, question, Within}
+use Rattle.calculus.proofs.Folds.{and-both, found}
 
 pub command-code : (k : Command) → command (code k) ≡ some k
 command-code (SIDE Left) = refl
@@ -66,6 +68,37 @@ question-encode S =
     = ap (λ (k : ℕ). formulas (drop k (encodeSequent S))) n
     ∙ ap formulas (drop-append-add (encodeSide Left (S .on-left)) (encodeSide Right (S .on-right)) 2) ∙ r in
     λ i. record { on-left = l i; on-right = (ap (λ (xs : List Formula). formulas (drop (4 + bytesAll xs) (encodeSequent S))) l ∙ d) i }
+
+-- ---- equal formulas: the test says that they are equal, and "equal formulas are equal bytes"
+
+pub same-eq : (x y : Formula) → same x y ≡ true → x ≡ y
+same-eq (letter j) (letter k) e = ap letter (eqb-true j k e)
+same-eq (letter j) (neg y) e = absurd (false≢true e)
+same-eq (letter j) (join d z w) e = absurd (false≢true e)
+same-eq (neg x) (letter k) e = absurd (false≢true e)
+same-eq (neg x) (neg y) e = ap neg (same-eq x y e)
+same-eq (neg x) (join d z w) e = absurd (false≢true e)
+same-eq (join b x y) (letter k) e = absurd (false≢true e)
+same-eq (join b x y) (neg z) e = absurd (false≢true e)
+same-eq (join b x y) (join d z w) e =
+    let h = and-both (eqb (code (CONNECTIVE (two b))) (code (CONNECTIVE (two d)))) _ e in
+    let p = and-both (same x z) (same y w) (h .1) in
+    let o : b ≡ d = cc (code-injective (CONNECTIVE (two b)) (CONNECTIVE (two d)) (eqb-true _ _ (h .0))) in
+    rw (o, same-eq x z (p .0), same-eq y w (p .1))
+
+pub same-self : (x : Formula) → same x x ≡ true
+same-self (letter k) = eq-eqb k k refl
+same-self (neg x) = same-self x
+same-self (join b x y) = rw (eq-eqb (code (CONNECTIVE (two b))) (code (CONNECTIVE (two b))) refl, same-self x, same-self y)
+
+pub same-exactly : (x y : Formula) → (same x y ≡ true) ↔ (x ≡ y)
+same-exactly x y = (same-eq x y, λ e. rw (← e) (same-self x))
+
+pub encode-injective : (x y : Formula) → encode x ≡ encode y → x ≡ y
+encode-injective x y e = cc (formulas-encode x [], formulas-encode y [], ap (λ (l : List ℕ). formulas (l ++ [])) e)
+
+pub same-bytes : (x y : Formula) → (same x y ≡ true) ↔ (encode x ≡ encode y)
+same-bytes x y = (λ e. ap encode (same-eq x y e), λ e. same-exactly x y .1 (encode-injective x y e))
 
 -- ---- lengths
 

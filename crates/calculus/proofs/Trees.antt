@@ -2,7 +2,7 @@
 -- Assumes nothing.
 use mathlib.Core.Path.{_≡_, refl, sym, ap, _∙_}
 use mathlib.Core.Bool.{Bool, true, false, not, _||_, or-true, false≢true}
-use mathlib.Core.Option.{Option, none, some}
+use mathlib.Core.Option.{Option, none, some, Option·none-ne-some}
 use mathlib.Core.List.{List, [], _∷_}
 use Prim.Native.Nat.{ℕ, zero, suc, _+_, _*_, _/_, _%_, _^_, min, max, _≤_, _<_}
 use native.Mathlib.Decide.{decLe}
@@ -16,12 +16,15 @@ use Rattle.calculus.specs.declared.Side.{Side}
 use Rattle.calculus.specs.declared.Side.the-variants.{Left, Right}
 use Rattle.calculus.specs.Fold.{fold, ANY, SUM, Each, choose}
 use Rattle.calculus.specs.Limits.{ROOM, LETTERS}
-use Rattle.calculus.specs.Syntax.{Formula, letter, neg, join, Compound, whole, Sequent, over, c, size}
-use Rattle.calculus.specs.Truth.{bit, says, truth}
+use Rattle.calculus.specs.Syntax.{Connective, NOT, two, Formula, letter, neg, join, Compound, compound, whole, Sequent, over, c, size}
+use Rattle.calculus.specs.Truth.{bit, value, says, truth}
+use Rattle.calculus.specs.Bytes.{same}
 use Rattle.calculus.specs.Table.{premises}
-use Rattle.calculus.specs.Tree.{letters, among, lower, common, closing, light, state, First, missing, here, later, first, Step, closed, opened, full, reduced, due, tests, step, reduce, Tree, chain, under, grow, growBy, tree}
+use Rattle.calculus.specs.Tree.{letters, among, lower, common, next, equalTo, partner, Twins, unlike, alike, nearest, twins, Way, lettered, paired, either, closing, closingByLetter, light, state, First, missing, here, later, first, Step, closed, opened, full, reduced, due, tests, stepBy, step, reduce, Tree, chain, under, grow, growBy, treeBy, tree}
+use Rattle.calculus.specs.Derivation.{Pairs}
 use Rattle.calculus.proofs.Folds.{or-elim, not-so, each, any-false}
 use Rattle.calculus.proofs.Rules.{weight}
+use Rattle.calculus.proofs.Spelling.{same-eq, same-self}
 use Rattle.calculus.proofs.Sequents.{Due, Smaller, smaller, weight-size}
 
 -- ---- states
@@ -112,12 +115,130 @@ any-letter g (letter j ∷ xs) k h e =
 any-letter g (neg x ∷ xs) k h e = rw (any-letter g xs k h e, or-true)
 any-letter g (join b x y ∷ xs) k h e = rw (any-letter g xs k h e, or-true)
 
-pub closed-true : (S : Sequent) (k : ℕ) → Shared (letters (S .on-left)) (letters (S .on-right)) (some k) → (σ : ℕ) → truth σ S ≡ true
-closed-true S k h σ = go (bit k σ) refl
+-- ---- equal formulas on both sides
+
+-- the first place of a formula equal to x
+abbrev pub Equal-at : Formula → List Formula → Option ℕ → Type 0
+Equal-at x ys none = (n : ℕ) → getElem? ys n ≡ some x → ⊥
+Equal-at x ys (some j) = (getElem? ys j ≡ some x) × ((n : ℕ) → getElem? ys n ≡ some x → j ≤ n)
+
+pub equal-at : (x : Formula) (ys : List Formula) → Equal-at x ys (equalTo x ys)
+equal-at x [] = λ n e. Option·none-ne-some x e
+equal-at x (y ∷ ys) = go (same x y) refl (equalTo x ys) (equal-at x ys)
+  where
+    other : same x y ≡ false → some y ≡ some x → ⊥
+    other e q = let d : x ≡ y = cc in false≢true (sym e ∙ rw (← d) (same-self x))
+
+    go : (b : Bool) → same x y ≡ b → (o : Option ℕ) → Equal-at x ys o → Equal-at x (y ∷ ys) (choose b (some 0) (next o))
+    go true e o h = (ap some (sym (same-eq x y e)), λ n q. omega arith)
+    go false e none h = far
+      where
+        far : (n : ℕ) → getElem? (y ∷ ys) n ≡ some x → ⊥
+        far zero q = other e q
+        far (suc n) q = h n q
+    go false e (some j) h = (h .0, far)
+      where
+        far : (n : ℕ) → getElem? (y ∷ ys) n ≡ some x → suc j ≤ n
+        far zero q = absurd (other e q)
+        far (suc n) q = omega (arith, h .1 n q)
+
+-- what a left formula has on the right, if it has a connective
+abbrev pub Partner : Formula → List Formula → Option ℕ → Type 0
+Partner x ys none = (y : Compound) → x ≡ whole y → (n : ℕ) → getElem? ys n ≡ some x → ⊥
+Partner x ys (some j) = (y : Compound) × (x ≡ whole y) × Equal-at x ys (some j)
+
+pub partner-at : (x : Formula) (ys : List Formula) → Partner x ys (partner x ys)
+partner-at (letter k) ys = λ y e n q. no-whole (y .connective) (y .f) (y .g) e
+  where
+    no-whole : (j : Connective) (f g : Formula) → letter k ≡ compound j f g → ⊥
+    no-whole NOT f g e = let z : _≡_ {A = ℕ} 0 1 = cc in omega arith
+    no-whole (two b) f g e = let z : _≡_ {A = ℕ} 0 1 = cc in omega arith
+partner-at (neg x) ys = go (equalTo (neg x) ys) (equal-at (neg x) ys)
+  where
+    go : (o : Option ℕ) → Equal-at (neg x) ys o → Partner (neg x) ys o
+    go none h = λ y e. h
+    go (some j) h = (record { connective = NOT; f = x; g = x }, refl, h)
+partner-at (join b x y) ys = go (equalTo (join b x y) ys) (equal-at (join b x y) ys)
+  where
+    go : (o : Option ℕ) → Equal-at (join b x y) ys o → Partner (join b x y) ys o
+    go none h = λ z e. h
+    go (some j) h = (record { connective = two b; f = x; g = y }, refl, h)
+
+-- a formula with connectives stands in both lists, at these places
+abbrev pub Both : List Formula → List Formula → ℕ → ℕ → Type 0
+Both xs ys i j = Pairs i j (record { on-left = xs; on-right = ys })
+
+-- "the lowest left place that has an equal on the right, with the lowest such right place"
+abbrev pub Alike : List Formula → List Formula → Twins → Type 0
+Alike xs ys unlike = (m n : ℕ) → Both xs ys m n → ⊥
+Alike xs ys (alike i j) = Both xs ys i j × ((m n : ℕ) → Both xs ys m n → (i ≤ m) × (m ≡ i → j ≤ n))
+
+pub alike-at : (xs ys : List Formula) → Alike xs ys (twins xs ys)
+alike-at [] ys = λ m n h. Option·none-ne-some (whole (h .x)) (h .lefts)
+alike-at (x ∷ xs) ys = go (partner x ys) (partner-at x ys) (twins xs ys) (alike-at xs ys)
+  where
+    less : (m n : ℕ) → Both (x ∷ xs) ys (suc m) n → Both xs ys m n
+    less m n b = record { x = b .x; lefts = b .lefts; rights = b .rights }
+
+    alone : Partner x ys none → (n : ℕ) → Both (x ∷ xs) ys 0 n → ⊥
+    alone p n b = let e : x ≡ whole (b .x) = cc (b .lefts) in p (b .x) e n (b .rights ∙ sym (b .lefts))
+
+    go : (o : Option ℕ) → Partner x ys o → (t : Twins) → Alike xs ys t → Alike (x ∷ xs) ys (nearest o t)
+    go (some j) p t h = (record { x = p .0; lefts = ap some (p .1); rights = p .2 .0 ∙ ap some (p .1) }, far)
+      where
+        far : (m n : ℕ) → Both (x ∷ xs) ys m n → (0 ≤ m) × (m ≡ 0 → j ≤ n)
+        far zero n b = (omega arith, λ e. p .2 .1 n (b .rights ∙ sym (b .lefts)))
+        far (suc m) n b = (omega arith, λ e. absurd (omega arith))
+    go none p unlike h = far
+      where
+        far : (m n : ℕ) → Both (x ∷ xs) ys m n → ⊥
+        far zero n b = alone p n b
+        far (suc m) n b = h m n (less m n b)
+    go none p (alike i j) h = (record { x = h .0 .x; lefts = h .0 .lefts; rights = h .0 .rights }, far)
+      where
+        far : (m n : ℕ) → Both (x ∷ xs) ys m n → (suc i ≤ m) × (m ≡ suc i → j ≤ n)
+        far zero n b = absurd (alone p n b)
+        far (suc m) n b = let q = h .1 m n (less m n b) in (omega (arith, q .0), λ e. q .1 (omega arith))
+
+any-at : (g : Formula → Bool) (xs : List Formula) (i : ℕ) (x : Formula) → getElem? xs i ≡ some x → g x ≡ true → fold ANY g xs ≡ true
+any-at g [] i x h e = absurd (Option·none-ne-some x h)
+any-at g (y ∷ xs) zero x h e = let q : y ≡ x = cc in rw (q, e)
+any-at g (y ∷ xs) (suc i) x h e = rw (any-at g xs i x h e, or-true)
+
+-- ---- what closes is true
+
+abbrev pub Closed : Sequent → Way → Type 0
+Closed S (lettered k) = Shared (letters (S .on-left)) (letters (S .on-right)) (some k)
+Closed S (paired i j) = Pairs i j S
+
+pub closed-true : (S : Sequent) (w : Way) → Closed S w → (σ : ℕ) → truth σ S ≡ true
+closed-true S (lettered k) h σ = go (bit k σ) refl
   where
     go : (b : Bool) → bit k σ ≡ b → truth σ S ≡ true
     go true e = rw (any-letter (says σ Right) (S .on-right) k (h .1) e, or-true)
     go false e = rw (any-letter (says σ Left) (S .on-left) k (h .0) (ap not e))
+closed-true S (paired i j) h σ = go (value σ (whole (h .x))) refl
+  where
+    go : (b : Bool) → value σ (whole (h .x)) ≡ b → truth σ S ≡ true
+    go true e = rw (any-at (says σ Right) (S .on-right) j (whole (h .x)) (h .rights) e, or-true)
+    go false e = rw (any-at (says σ Left) (S .on-left) i (whole (h .x)) (h .lefts) (ap not e))
+
+-- what the closing test says. "The letter test comes first": by equal formulas only where no letter stands on both sides
+abbrev pub Closing : Sequent → Option Way → Type 0
+Closing S none = Shared (letters (S .on-left)) (letters (S .on-right)) none × Alike (S .on-left) (S .on-right) unlike
+Closing S (some (lettered k)) = Shared (letters (S .on-left)) (letters (S .on-right)) (some k)
+Closing S (some (paired i j)) = Shared (letters (S .on-left)) (letters (S .on-right)) none × Alike (S .on-left) (S .on-right) (alike i j)
+
+pub closing-right : (S : Sequent) → Closing S (closing S)
+closing-right S =
+    go (common (letters (S .on-left)) (letters (S .on-right))) (shared (letters (S .on-left)) (letters (S .on-right)))
+    (twins (S .on-left) (S .on-right)) (alike-at (S .on-left) (S .on-right))
+  where
+    go : (o : Option ℕ) → Shared (letters (S .on-left)) (letters (S .on-right)) o → (t : Twins) → Alike (S .on-left) (S .on-right) t
+        → Closing S (either o t)
+    go (some k) h t p = h
+    go none h unlike p = (h, p)
+    go none h (alike i j) p = (h, p)
 
 -- ---- the search for a compound, and the open sequent
 
@@ -156,7 +277,7 @@ open-false S h a b =
 -- ---- what each outcome of the tests says of the sequent
 
 abbrev pub Right-step : Sequent → Step → Type 0
-Right-step S (closed k) = Shared (letters (S .on-left)) (letters (S .on-right)) (some k)
+Right-step S (closed w) = Closed S w
 Right-step S (opened σ) = truth σ S ≡ false
 Right-step S full = ROOM < over SUM weight S
 Right-step S (reduced s i x) = Due S s i x
@@ -173,15 +294,41 @@ right-due S s i x h = go (fold ANY (λ P. ltb ROOM (size P)) (premises s i x S))
     go true e = elim (decLe (over SUM weight S) ROOM) [ yes l ↦ absurd (false≢true (sym (small l) ∙ e)) | no l ↦ omega arith ]
     go false e = h
 
-right-tests : (S : Sequent) (o : Option ℕ) (a b : First) → Shared (letters (S .on-left)) (letters (S .on-right)) o → Stands (S .on-left) a
+-- a closing test is sound: where it says no, no letter stands on both sides
+abbrev pub Tested : Sequent → Option Way → Type 0
+Tested S none = Shared (letters (S .on-left)) (letters (S .on-right)) none
+Tested S (some w) = Closed S w
+
+abbrev pub Sound : (Sequent → Option Way) → Type 0
+Sound t = (S : Sequent) → Tested S (t S)
+
+pub closing-sound : Sound closing
+closing-sound S = go (closing S) (closing-right S)
+  where
+    go : (o : Option Way) → Closing S o → Tested S o
+    go none h = h .0
+    go (some (lettered k)) h = h
+    go (some (paired i j)) h = h .1 .0
+
+pub letter-sound : Sound closingByLetter
+letter-sound S = go (common (letters (S .on-left)) (letters (S .on-right))) (shared (letters (S .on-left)) (letters (S .on-right)))
+  where
+    go : (o : Option ℕ) → Shared (letters (S .on-left)) (letters (S .on-right)) o → Tested S (either o unlike)
+    go none h = h
+    go (some k) h = h
+
+right-tests : (S : Sequent) (o : Option Way) (a b : First) → Tested S o → Stands (S .on-left) a
     → Stands (S .on-right) b → Right-step S (tests S o a b)
-right-tests S (some k) a b h p q = h
+right-tests S (some w) a b h p q = h
 right-tests S none (here i x) b h p q = right-due S Left i x p
 right-tests S none missing (here i x) h p q = right-due S Right i x q
 right-tests S none missing missing h p q = open-false S h p q
 
+pub right-stepBy : (t : Sequent → Option Way) → Sound t → (S : Sequent) → Right-step S (stepBy t S)
+right-stepBy t f S = right-tests S (t S) (first (S .on-left)) (first (S .on-right)) (f S) (stands (S .on-left)) (stands (S .on-right))
+
 pub right-step : (S : Sequent) → Right-step S (step S)
-right-step S = right-tests S (closing S) (first (S .on-left)) (first (S .on-right)) (shared (letters (S .on-left)) (letters (S .on-right))) (stands (S .on-left)) (stands (S .on-right))
+right-step = right-stepBy closing closing-sound
 
 -- ---- the fuel does not run out: the tree, with no word of it, and induction over it
 
@@ -190,21 +337,26 @@ chain-same r q [] h = refl
 chain-same r q (P ∷ Ps) h = rw (h .0, chain-same r q Ps (h .1))
 
 grow-same : (r q : Sequent → Tree) (S : Sequent) → ((P : Sequent) → Smaller S P → r P ≡ q P) → (t : Step) → Right-step S t → grow r S t ≡ grow q S t
-grow-same r q S h (closed k) p = refl
+grow-same r q S h (closed w) p = refl
 grow-same r q S h (opened σ) p = refl
 grow-same r q S h full p = refl
 grow-same r q S h (reduced s i x) p =
     ap (under (reduce s i (x .connective))) (chain-same r q (premises s i x S)
     (each (Smaller S) (λ P. r P ≡ q P) h (premises s i x S) (smaller s i x S p)))
 
-grow-enough : (n m : ℕ) (S : Sequent) → c S < n → c S < m → growBy n S ≡ growBy m S
-grow-enough zero m S h k = absurd (omega arith)
-grow-enough (suc n) zero S h k = absurd (omega arith)
-grow-enough (suc n) (suc m) S h k =
-    grow-same (λ P. growBy n P) (λ P. growBy m P) S (λ P l. grow-enough n m P (omega arith) (omega arith)) (step S) (right-step S)
+grow-enough : (t : Sequent → Option Way) → Sound t → (n m : ℕ) (S : Sequent) → c S < n → c S < m → growBy t n S ≡ growBy t m S
+grow-enough t f zero m S h k = absurd (omega arith)
+grow-enough t f (suc n) zero S h k = absurd (omega arith)
+grow-enough t f (suc n) (suc m) S h k =
+    grow-same (λ P. growBy t n P) (λ P. growBy t m P) S (λ P l. grow-enough t f n m P (omega arith) (omega arith)) (stepBy t S) (right-stepBy t f S)
+
+pub treeBy-grows : (t : Sequent → Option Way) → Sound t → (S : Sequent) → treeBy t S ≡ grow (treeBy t) S (stepBy t S)
+treeBy-grows t f S =
+    grow-same (λ P. growBy t (c S) P) (treeBy t) S (λ P l. grow-enough t f (c S) (suc (c P)) P (omega arith) (omega arith)) (stepBy t S)
+    (right-stepBy t f S)
 
 pub tree-grows : (S : Sequent) → tree S ≡ grow tree S (step S)
-tree-grows S = grow-same (λ P. growBy (c S) P) tree S (λ P l. grow-enough (c S) (suc (c P)) P (omega arith) (omega arith)) (step S) (right-step S)
+tree-grows = treeBy-grows closing closing-sound
 
 -- a fact of each sequent, from its premises'
 pub sequent-ind : (Q : Sequent → Type 0) → ((S : Sequent) → ((P : Sequent) → Smaller S P → Q P) → Q S) → (S : Sequent) → Q S
@@ -214,6 +366,11 @@ sequent-ind Q f S = go (suc (c S)) S (le-refl _)
     go zero P h = absurd (omega arith)
     go (suc n) P h = f P (λ P′ l. go n P′ (omega arith))
 
+pub treeBy-ind : (t : Sequent → Option Way) → Sound t → (Q : Sequent → Tree → Type 0)
+    → ((S : Sequent) (u : Step) → Right-step S u → ((P : Sequent) → Smaller S P → Q P (treeBy t P)) → Q S (grow (treeBy t) S u))
+    → (S : Sequent) → Q S (treeBy t S)
+treeBy-ind t f Q g = sequent-ind (λ S. Q S (treeBy t S)) (λ S h. rw (treeBy-grows t f S) (g S (stepBy t S) (right-stepBy t f S) h))
+
 pub tree-ind : (Q : Sequent → Tree → Type 0)
-    → ((S : Sequent) (t : Step) → Right-step S t → ((P : Sequent) → Smaller S P → Q P (tree P)) → Q S (grow tree S t)) → (S : Sequent) → Q S (tree S)
-tree-ind Q f = sequent-ind (λ S. Q S (tree S)) (λ S h. rw (tree-grows S) (f S (step S) (right-step S) h))
+    → ((S : Sequent) (u : Step) → Right-step S u → ((P : Sequent) → Smaller S P → Q P (tree P)) → Q S (grow tree S u)) → (S : Sequent) → Q S (tree S)
+tree-ind = treeBy-ind closing closing-sound

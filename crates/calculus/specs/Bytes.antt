@@ -1,4 +1,5 @@
 -- "The bytes of a question": what a sequent is written as, and what bytes spell.
+use mathlib.Core.Bool.{Bool, false, _&&_}
 use mathlib.Core.Option.{Option, none, some}
 use mathlib.Core.List.{List, [], _∷_, _++_}
 use Prim.Native.Nat.{ℕ, _+_, _≤_, _<_}
@@ -49,6 +50,18 @@ abbrev pub encode : Formula → List ℕ
 encode (letter k) = code LETTER ∷ k ∷ []
 encode (neg x) = code (CONNECTIVE NOT) ∷ encode x
 encode (join b x y) = code (CONNECTIVE (two b)) ∷ (encode x ++ encode y)
+
+-- "equal formulas are equal bytes": formula by formula, and the law `same-bytes` says that it is so
+abbrev pub same : Formula → Formula → Bool
+same (letter j) (letter k) = eqb j k
+same (letter j) (neg y) = false
+same (letter j) (join d z w) = false
+same (neg x) (letter k) = false
+same (neg x) (neg y) = same x y
+same (neg x) (join d z w) = false
+same (join b x y) (letter k) = false
+same (join b x y) (neg z) = false
+same (join b x y) (join d z w) = eqb (code (CONNECTIVE (two b))) (code (CONNECTIVE (two d))) && (same x z && same y w)
 
 abbrev pub encodeAll : List Formula → List ℕ
 encodeAll [] = []

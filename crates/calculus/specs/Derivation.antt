@@ -9,27 +9,30 @@ use lib.ListN.{getElem?}
 use Rattle.calculus.specs.declared.Side.{Side}
 use Rattle.calculus.specs.declared.Side.the-variants.{Left, Right}
 use Rattle.calculus.specs.Fold.{find, choose}
-use Rattle.calculus.specs.Limits.{CUT-SHORT, UNKNOWN-COMMAND, NO-FORMULA, OTHER-CONNECTIVE, NOT-CLOSED, BYTES-AFTER}
+use Rattle.calculus.specs.Limits.{CUT-SHORT, UNKNOWN-COMMAND, NO-FORMULA, OTHER-CONNECTIVE, NOT-CLOSED, BYTES-AFTER, NOT-EQUAL}
 use Rattle.calculus.specs.Syntax.{AND, OR, IMPLIES, EQUIV, Connective, NOT, two, Formula, letter, neg, join, Compound, whole, Sequent, on-side}
-use Rattle.calculus.specs.Bytes.{CONNECTIVE, code}
+use Rattle.calculus.specs.Bytes.{CONNECTIVE, code, same}
 use Rattle.calculus.specs.Table.{premises}
-use Rattle.calculus.specs.Tree.{letters, among, Event, close, reduce, tree}
+use Rattle.calculus.specs.Tree.{letters, among, Way, lettered, paired, Event, close, reduce, tree}
 
--- ---- commands of two bytes
+-- ---- commands: a byte and its operand, or two operands
 
 pub data Order : Type 0 where
   CLOSE : Order
+  PAIR : Order
   REDUCE : Side → Connective → Order
 
--- "52 to 56 reduce NOT to EQUIV on the left, 62 to 66 on the right"; "41 closes"
+-- "52 to 56 reduce NOT to EQUIV on the left, 62 to 66 on the right"; "41 closes"; "the derivation command is 42"
 abbrev pub orderCode : Order → ℕ
 orderCode CLOSE = 0x41
+orderCode PAIR = 0x42
 orderCode (REDUCE Left k) = 0x50 + code (CONNECTIVE k)
 orderCode (REDUCE Right k) = 0x60 + code (CONNECTIVE k)
 
 abbrev pub orders : List Order
 orders =
     CLOSE
+    ∷ PAIR
     ∷ REDUCE Left NOT
     ∷ REDUCE Left (two AND)
     ∷ REDUCE Left (two OR)
@@ -46,9 +49,10 @@ orders =
 abbrev pub order : ℕ → Option Order
 order b = find (λ o. eqb (orderCode o) b) orders
 
--- "the operand is the formula's place on that side, from 0"; of a closing "its operand is the letter"
+-- "the operand is the formula's place on that side, from 0"; of a closing "its operand is the letter"; of 42 "two one-byte operands, left place and right place"
 abbrev pub written : Event → List ℕ
-written (close k) = orderCode CLOSE ∷ k ∷ []
+written (close (lettered k)) = orderCode CLOSE ∷ k ∷ []
+written (close (paired i j)) = orderCode PAIR ∷ i ∷ j ∷ []
 written (reduce s i k) = orderCode (REDUCE s k) ∷ i ∷ []
 
 abbrev pub writtenAll : List Event → List ℕ
@@ -66,10 +70,17 @@ pub record Closes (k : ℕ) (S : Sequent) : Type 0 where
   pub lefts : among k (letters (S .on-left)) ≡ true
   pub rights : among k (letters (S .on-right)) ≡ true
 
+-- a formula with connectives stands on both sides, at these places
+pub record Pairs (i j : ℕ) (S : Sequent) : Type 0 where
+  pub x : Compound
+  pub lefts : getElem? (S .on-left) i ≡ some (whole x)
+  pub rights : getElem? (S .on-right) j ≡ some (whole x)
+
 -- "after a reduction with two premises comes the whole derivation of the first premise, then that of the second"
 mutual
   pub data Derivation : Sequent → List ℕ → Type 0 where
     by-letter : {S : Sequent} {ds : List ℕ} (k : ℕ) → Closes k S → ds ≡ orderCode CLOSE ∷ k ∷ [] → Derivation S ds
+    by-pair : {S : Sequent} {ds : List ℕ} (i j : ℕ) → Pairs i j S → ds ≡ orderCode PAIR ∷ i ∷ j ∷ [] → Derivation S ds
     by-rule : {S : Sequent} {ds es : List ℕ} (s : Side) (i : ℕ) (x : Compound) → getElem? (on-side s S) i ≡ some (whole x)
         → Derivations (premises s i x S) es → ds ≡ orderCode (REDUCE s (x .connective)) ∷ i ∷ es → Derivation S ds
 
@@ -79,10 +90,11 @@ mutual
 
 -- ---- the checker
 
--- a fault's number, or the premises that wait now
+-- a fault's number; or the premises that wait now, after a command of two bytes; or closed, by one of three
 pub data Move : Type 0 where
   fault : ℕ → Move
   waiting : List Sequent → Move
+  shut : Move
 
 -- the premises, if the command's connective is the formula's
 abbrev pub matched : Connective → Side → ℕ → Compound → Sequent → Move
@@ -94,19 +106,36 @@ named s i k S (some (letter j)) = fault OTHER-CONNECTIVE
 named s i k S (some (neg x)) = matched k s i (record { connective = NOT; f = x; g = x }) S
 named s i k S (some (join b x y)) = matched k s i (record { connective = two b; f = x; g = y }) S
 
--- one command with its operand, at the sequent that waits
-abbrev pub obey : Option Order → ℕ → Sequent → Move
-obey none i S = fault UNKNOWN-COMMAND
-obey (some CLOSE) i S = choose (among i (letters (S .on-left)) && among i (letters (S .on-right))) (waiting []) (fault NOT-CLOSED)
-obey (some (REDUCE s k)) i S = named s i k S (getElem? (on-side s S) i)
+-- "the two formulas named by 42 differ or are letters"
+abbrev pub equals : Formula → Formula → Move
+equals (letter k) y = fault NOT-EQUAL
+equals (neg x) y = choose (same (neg x) y) shut (fault NOT-EQUAL)
+equals (join b x z) y = choose (same (join b x z) y) shut (fault NOT-EQUAL)
+
+-- "22 for either place, then 26"
+abbrev pub pairs : Option Formula → Option Formula → Move
+pairs none y = fault NO-FORMULA
+pairs (some x) none = fault NO-FORMULA
+pairs (some x) (some y) = equals x y
+
+-- one command with its operand, and the byte after that, if there is one, at the sequent that waits:
+-- "for 42 the checker gives 20 if fewer than three bytes are left"
+abbrev pub obey : Option Order → ℕ → Option ℕ → Sequent → Move
+obey none i o S = fault UNKNOWN-COMMAND
+obey (some CLOSE) i o S = choose (among i (letters (S .on-left)) && among i (letters (S .on-right))) (waiting []) (fault NOT-CLOSED)
+obey (some PAIR) i none S = fault CUT-SHORT
+obey (some PAIR) i (some j) S = pairs (getElem? (S .on-left) i) (getElem? (S .on-right) j)
+obey (some (REDUCE s k)) i o S = named s i k S (getElem? (on-side s S) i)
 
 pub data Checked : Type 0 where
   passes : Checked
   faulty : ℕ → ℕ → Checked
 
-abbrev pub proceed : Move → ℕ → (List Sequent → Checked) → Checked
-proceed (fault n) at r = faulty n at
-proceed (waiting Ps) at r = r Ps
+-- on to the bytes after two, or after three
+abbrev pub proceed : Move → ℕ → (List Sequent → Checked) → (List Sequent → Checked) → Checked
+proceed (fault n) at r t = faulty n at
+proceed (waiting Ps) at r t = r Ps
+proceed shut at r t = t []
 
 -- the sequents that wait, one derivation after the other; "the command's place", or the first byte left over
 abbrev pub check : List ℕ → List Sequent → ℕ → Checked
@@ -115,7 +144,9 @@ check [] (P ∷ Ps) at = faulty CUT-SHORT at
 check (b ∷ []) [] at = faulty BYTES-AFTER at
 check (b ∷ []) (P ∷ Ps) at = faulty CUT-SHORT at
 check (b ∷ i ∷ bs) [] at = faulty BYTES-AFTER at
-check (b ∷ i ∷ bs) (P ∷ Ps) at = proceed (obey (order b) i P) at (λ Qs. check bs (Qs ++ Ps) (at + 2))
+check (b ∷ i ∷ []) (P ∷ Ps) at = proceed (obey (order b) i none P) at (λ Qs. check [] (Qs ++ Ps) (at + 2)) (λ Qs. faulty CUT-SHORT at)
+check (b ∷ i ∷ j ∷ bs) (P ∷ Ps) at =
+    proceed (obey (order b) i (some j) P) at (λ Qs. check (j ∷ bs) (Qs ++ Ps) (at + 2)) (λ Qs. check bs (Qs ++ Ps) (at + 3))
 
 abbrev pub checking : Sequent → List ℕ → Checked
 checking S ds = check ds (S ∷ []) 0

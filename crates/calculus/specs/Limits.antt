@@ -86,3 +86,6 @@ NOT-CLOSED = 24
 
 abbrev pub BYTES-AFTER : ℕ
 BYTES-AFTER = 25
+
+abbrev pub NOT-EQUAL : ℕ
+NOT-EQUAL = 26

@@ -13,6 +13,7 @@ use Rattle.calculus.specs.declared.Verdict.{Verdict}
 use Rattle.calculus.specs.Fold.{fold, ANY, SUM, choose}
 use Rattle.calculus.specs.Limits.{ROOM}
 use Rattle.calculus.specs.Syntax.{Connective, NOT, two, Compound, Formula, letter, neg, join, Sequent, c, size}
+use Rattle.calculus.specs.Bytes.{same}
 use Rattle.calculus.specs.Table.{premises}
 
 -- ---- the tests
@@ -36,9 +37,56 @@ abbrev pub common : List ℕ → List ℕ → Option ℕ
 common [] ms = none
 common (k ∷ ks) ms = lower (among k ms) k (common ks ms)
 
--- "if one letter stands on both sides, it is closed": the lowest such letter
-abbrev pub closing : Sequent → Option ℕ
-closing S = common (letters (S .on-left)) (letters (S .on-right))
+-- a place counted from one further left
+abbrev pub next : Option ℕ → Option ℕ
+next none = none
+next (some j) = some (suc j)
+
+-- the first place of a formula equal to x
+abbrev pub equalTo : Formula → List Formula → Option ℕ
+equalTo x [] = none
+equalTo x (y ∷ ys) = choose (same x y) (some 0) (next (equalTo x ys))
+
+-- of x on the left, "a formula with connectives": "the lowest such right place"
+abbrev pub partner : Formula → List Formula → Option ℕ
+partner (letter k) ys = none
+partner (neg x) ys = equalTo (neg x) ys
+partner (join b x y) ys = equalTo (join b x y) ys
+
+-- a left place and a right place with equal formulas, if there are such
+pub data Twins : Type 0 where
+  unlike : Twins
+  alike : ℕ → ℕ → Twins
+
+-- what the left formula at place 0 has on the right, else what those after it have
+abbrev pub nearest : Option ℕ → Twins → Twins
+nearest (some j) t = alike 0 j
+nearest none unlike = unlike
+nearest none (alike i j) = alike (suc i) j
+
+-- "the lowest left place that has an equal on the right, with the lowest such right place"
+abbrev pub twins : List Formula → List Formula → Twins
+twins [] ys = unlike
+twins (x ∷ xs) ys = nearest (partner x ys) (twins xs ys)
+
+-- the two ways of closing: by a letter, or by equal formulas at a left and a right place
+pub data Way : Type 0 where
+  lettered : ℕ → Way
+  paired : ℕ → ℕ → Way
+
+-- "the letter test comes first"
+abbrev pub either : Option ℕ → Twins → Option Way
+either (some k) t = some (lettered k)
+either none unlike = none
+either none (alike i j) = some (paired i j)
+
+-- "if one letter stands on both sides, it is closed": by the lowest such letter; "also if a formula with connectives stands on both sides"
+abbrev pub closing : Sequent → Option Way
+closing S = either (common (letters (S .on-left)) (letters (S .on-right))) (twins (S .on-left) (S .on-right))
+
+-- by letters alone, as it was before equal formulas closed
+abbrev pub closingByLetter : Sequent → Option Way
+closingByLetter S = either (common (letters (S .on-left)) (letters (S .on-right))) unlike
 
 -- σ with bit k set
 abbrev pub light : ℕ → ℕ → ℕ
@@ -67,7 +115,7 @@ first (join b x y ∷ xs) = here 0 (record { connective = two b; f = x; g = y })
 
 -- what the tests say of a sequent
 pub data Step : Type 0 where
-  closed : ℕ → Step
+  closed : Way → Step
   opened : ℕ → Step
   full : Step
   reduced : Side → ℕ → Compound → Step
@@ -78,19 +126,23 @@ due S s i x = choose (fold ANY (λ P. ltb ROOM (size P)) (premises s i x S)) ful
 
 -- "in this order": closed; open if no connective is left; else the first formula with a connective, the left side before the right.
 -- "Bit k is set exactly if letter k stands on the left of the open sequent."
-abbrev pub tests : Sequent → Option ℕ → First → First → Step
-tests S (some k) a b = closed k
+abbrev pub tests : Sequent → Option Way → First → First → Step
+tests S (some w) a b = closed w
 tests S none (here i x) b = due S Left i x
 tests S none missing (here i x) = due S Right i x
 tests S none missing missing = opened (state (letters (S .on-left)))
 
+-- by a closing test: the tests, and further down the tree
+abbrev pub stepBy : (Sequent → Option Way) → Sequent → Step
+stepBy t S = tests S (t S) (first (S .on-left)) (first (S .on-right))
+
 abbrev pub step : Sequent → Step
-step S = tests S (closing S) (first (S .on-left)) (first (S .on-right))
+step = stepBy closing
 
 -- ---- the tree, in its order: what is done at each sequent, and how it ends
 
 pub data Event : Type 0 where
-  close : ℕ → Event
+  close : Way → Event
   reduce : Side → ℕ → Connective → Event
 
 -- the tree's end is never Spent: that is the budget's
@@ -118,26 +170,35 @@ under e t = record { events = e ∷ t .events; end = t .end }
 
 -- "a closed sequent has nothing under it"; "any other is reduced"
 abbrev pub grow : (Sequent → Tree) → Sequent → Step → Tree
-grow r S (closed k) = record { events = close k ∷ []; end = Theorem }
+grow r S (closed w) = record { events = close w ∷ []; end = Theorem }
 grow r S (opened σ) = record { events = []; end = Refuted σ }
 grow r S full = record { events = []; end = Full }
 grow r S (reduced s i x) = under (reduce s i (x .connective)) (chain r (premises s i x S))
 
-abbrev pub growBy : ℕ → Sequent → Tree
-growBy zero S = record { events = []; end = Full }
-growBy (suc n) S = grow (λ P. growBy n P) S (step S)
+abbrev pub growBy : (Sequent → Option Way) → ℕ → Sequent → Tree
+growBy t zero S = record { events = []; end = Full }
+growBy t (suc n) S = grow (λ P. growBy t n P) S (stepBy t S)
 
 -- "the question is its root". Each reduction takes a connective away, so the fuel does not run out.
+abbrev pub treeBy : (Sequent → Option Way) → Sequent → Tree
+treeBy t S = growBy t (suc (c S)) S
+
 abbrev pub tree : Sequent → Tree
-tree S = growBy (suc (c S)) S
+tree = treeBy closing
 
 abbrev pub isReduce : Event → ℕ
-isReduce (close k) = 0
+isReduce (close w) = 0
 isReduce (reduce s i k) = 1
 
 abbrev pub isClose : Event → ℕ
-isClose (close k) = 1
+isClose (close w) = 1
 isClose (reduce s i k) = 0
+
+-- those by equal formulas
+abbrev pub isPair : Event → ℕ
+isPair (close (lettered k)) = 0
+isPair (close (paired i j)) = 1
+isPair (reduce s i k) = 0
 
 -- "its reductions are its reduced sequents, its closings its closed ones"
 abbrev pub reductions : List Event → ℕ
@@ -146,16 +207,24 @@ reductions = fold SUM isReduce
 abbrev pub closings : List Event → ℕ
 closings = fold SUM isClose
 
+-- the closings by 42, which are among the closings
+abbrev pub pairings : List Event → ℕ
+pairings = fold SUM isPair
+
 -- ---- the budget
 
-abbrev pub oneMore : Outcome → Outcome
-oneMore o = record { kind = o .kind; unspent = o .unspent; closings = 1 + o .closings }
+abbrev pub oneMore : Way → Outcome → Outcome
+oneMore w o = record { kind = o .kind; unspent = o .unspent; closings = 1 + o .closings; pairings = isPair (close w) + o .pairings }
+
+-- what ends a run before it closes a sequent
+abbrev pub ends : Kind → ℕ → Outcome
+ends e b = record { kind = e; unspent = b; closings = 0; pairings = 0 }
 
 -- the tree in its order, as far as the budget goes: "SPENT reports the closings before the tree's reduced sequent number budget + 1"
 abbrev pub spend : ℕ → List Event → Kind → Outcome
-spend b [] e = record { kind = e; unspent = b; closings = 0 }
-spend b (close k ∷ es) e = oneMore (spend b es e)
-spend zero (reduce s i k ∷ es) e = record { kind = Spent; unspent = 0; closings = 0 }
+spend b [] e = ends e b
+spend b (close w ∷ es) e = oneMore w (spend b es e)
+spend zero (reduce s i k ∷ es) e = ends Spent 0
 spend (suc b) (reduce s i k ∷ es) e = spend b es e
 
 abbrev pub outcome : ℕ → Sequent → Outcome
@@ -164,7 +233,7 @@ outcome b S = spend b (tree S .events) (tree S .end)
 -- the closings before the tree's reduced sequent number b + 1
 abbrev pub closingsBefore : ℕ → List Event → ℕ
 closingsBefore b [] = 0
-closingsBefore b (close k ∷ es) = 1 + closingsBefore b es
+closingsBefore b (close w ∷ es) = 1 + closingsBefore b es
 closingsBefore zero (reduce s i k ∷ es) = 0
 closingsBefore (suc b) (reduce s i k ∷ es) = closingsBefore b es
 
@@ -178,13 +247,13 @@ verdict b S =
 
 -- the inner step: the tests in their order, with the budget's before the reduction
 pub data Inner : Type 0 where
-  isClosed : ℕ → Inner
+  isClosed : Way → Inner
   isOpen : ℕ → Inner
   isFull isSpent : Inner
   isDue : Side → ℕ → Compound → Inner
 
 abbrev pub afford : ℕ → Step → Inner
-afford b (closed k) = isClosed k
+afford b (closed w) = isClosed w
 afford b (opened σ) = isOpen σ
 afford b full = isFull
 afford zero (reduced s i x) = isSpent
@@ -197,24 +266,24 @@ inner b S = afford b (step S)
 abbrev pub andThen : Kind → Outcome → (ℕ → Outcome) → Outcome
 andThen Theorem o u =
     let v : Outcome = u (o .unspent) in
-    record { kind = v .kind; unspent = v .unspent; closings = o .closings + v .closings }
+    record { kind = v .kind; unspent = v .unspent; closings = o .closings + v .closings; pairings = o .pairings + v .pairings }
 andThen (Refuted σ) o u = o
 andThen Spent o u = o
 andThen Full o u = o
 
 abbrev pub pass : (ℕ → Sequent → Outcome) → ℕ → List Sequent → Outcome
-pass r b [] = record { kind = Theorem; unspent = b; closings = 0 }
+pass r b [] = ends Theorem b
 pass r b (P ∷ Ps) = andThen (r b P .kind) (r b P) (λ l. pass r l Ps)
 
 abbrev pub act : (ℕ → Sequent → Outcome) → ℕ → Sequent → Inner → Outcome
-act r b S (isClosed k) = record { kind = Theorem; unspent = b; closings = 1 }
-act r b S (isOpen σ) = record { kind = Refuted σ; unspent = b; closings = 0 }
-act r b S isFull = record { kind = Full; unspent = b; closings = 0 }
-act r b S isSpent = record { kind = Spent; unspent = b; closings = 0 }
+act r b S (isClosed w) = oneMore w (ends Theorem b)
+act r b S (isOpen σ) = ends (Refuted σ) b
+act r b S isFull = ends Full b
+act r b S isSpent = ends Spent b
 act r b S (isDue s i x) = pass r (b - 1) (premises s i x S)
 
 abbrev pub runBy : ℕ → ℕ → Sequent → Outcome
-runBy zero b S = record { kind = Full; unspent = b; closings = 0 }
+runBy zero b S = ends Full b
 runBy (suc n) b S = act (λ l P. runBy n l P) b S (inner b S)
 
 abbrev pub run : ℕ → Sequent → Outcome

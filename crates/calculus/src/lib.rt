@@ -39,11 +39,12 @@ pub enum Kind {
     Full,
 }
 
-// What a run under a budget comes to: its kind, the reductions left and the sequents closed.
+// What a run under a budget comes to: its kind, the reductions left, the sequents closed, and how many of these by equal formulas.
 pub struct Outcome {
     pub kind: Kind,
     pub unspent: u64,
     pub closings: u64,
+    pub pairings: u64,
 }
 
 // A verdict carries its kind, and beside it the two counts.
