@@ -1,5 +1,6 @@
 -- The laws of the definitions. Assumes nothing.
 pub mod Folds
+pub mod Bits
 pub mod Rules
 pub mod Sequents
 pub mod Trees

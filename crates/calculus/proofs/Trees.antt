@@ -200,6 +200,21 @@ alike-at (x ∷ xs) ys = go (partner x ys) (partner-at x ys) (twins xs ys) (alik
         far zero n b = absurd (alone p n b)
         far (suc m) n b = let q = h .1 m n (less m n b) in (omega (arith, q .0), λ e. q .1 (omega arith))
 
+-- these say which pair it is
+pub alike-only : (xs ys : List Formula) (t : Twins) → Alike xs ys t → twins xs ys ≡ t
+alike-only xs ys t h = go (twins xs ys) (alike-at xs ys) t h
+  where
+    go : (u : Twins) → Alike xs ys u → (t : Twins) → Alike xs ys t → u ≡ t
+    go unlike a unlike b = refl
+    go unlike a (alike i j) b = absurd (a i j (b .0))
+    go (alike i j) a unlike b = absurd (b i j (a .0))
+    go (alike i j) a (alike m n) b =
+        let p = a .1 m n (b .0) in
+        let q = b .1 i j (a .0) in
+        let e : i ≡ m = omega (arith, p .0, q .0) in
+        let f : j ≡ n = omega (arith, p .1 (sym e), q .1 e) in
+        rw (e, f)
+
 any-at : (g : Formula → Bool) (xs : List Formula) (i : ℕ) (x : Formula) → getElem? xs i ≡ some x → g x ≡ true → fold ANY g xs ≡ true
 any-at g [] i x h e = absurd (Option·none-ne-some x h)
 any-at g (y ∷ xs) zero x h e = let q : y ≡ x = cc in rw (q, e)

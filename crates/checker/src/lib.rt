@@ -33,6 +33,7 @@ pub enum Fault {
     OtherConnective(usize),
     NotClosed(usize),
     BytesAfter(usize),
+    NotEqual(usize),
 }
 
 impl Fault {
@@ -47,6 +48,7 @@ impl Fault {
             Fault::OtherConnective(_) => 23,
             Fault::NotClosed(_) => 24,
             Fault::BytesAfter(_) => 25,
+            Fault::NotEqual(_) => 26,
         }
     }
 
@@ -61,6 +63,7 @@ impl Fault {
             Fault::OtherConnective(at) => at,
             Fault::NotClosed(at) => at,
             Fault::BytesAfter(at) => at,
+            Fault::NotEqual(at) => at,
         }
     }
 }
@@ -71,17 +74,18 @@ pub enum Checking {
     Passes,
 }
 
-// A command: close, or reduce a connective, given by its own command, on a side.
+// A command: close by a letter or by equal formulas, or reduce a connective, given by its own command, on a side.
 enum Order {
     Close,
+    Pair,
     Reduce(Side, u8),
     Unknown,
 }
 
-// What a command says of the sequent that waits: at fault, closed, or a reduction to make.
+// What a command says of the sequent that waits: at fault, closed, with the bytes that the command has, or a reduction to make.
 enum Move {
     Stop(Fault),
-    Closed,
+    Closed(usize),
     Reduce(Reduction),
 }
 
@@ -103,6 +107,7 @@ fn order_of(b: u8) -> Order
 {
     match b {
         0x41 => Order::Close,
+        0x42 => Order::Pair,
         0x52..=0x56 => Order::Reduce(Side::Left, b - 0x50),
         0x62..=0x66 => Order::Reduce(Side::Right, b - 0x60),
         _ => Order::Unknown,
@@ -165,8 +170,37 @@ fn formula_named(
     Move::Reduce(r)
 }
 
-// A command b with its operand x.
-fn obey(nodes: &[u32; 48], items: &[u8; 80], s: Running, b: u8, x: u8, at: usize) -> Move
+// Whether the formulas at a left and a right place are one with connectives.
+fn formulas_named(items: &[u8; 80], s: Running, left: u8, right: u8, at: usize) -> Move {
+    let i = wide(left);
+    let j = wide(right);
+    if s.lefts <= i {
+        return Move::Stop(Fault::NoFormula(at));
+    }
+    if s.rights <= j {
+        return Move::Stop(Fault::NoFormula(at));
+    }
+    let k = s.lefts + j;
+    if items[i] < LETTERS {
+        return Move::Stop(Fault::NotEqual(at));
+    }
+    if items[i] != items[k] {
+        return Move::Stop(Fault::NotEqual(at));
+    }
+    Move::Closed(3)
+}
+
+// 42 at a place of the derivation, with its first operand x.
+fn paired(items: &[u8; 80], d: &[u8], s: Running, x: u8, at: usize) -> Move {
+    if d.len() - at < 3 {
+        return Move::Stop(Fault::CutShort(at));
+    }
+    let last = at + 2;
+    formulas_named(items, s, x, d[last], at)
+}
+
+// The command at a place of the derivation, which has one operand at least.
+fn obey(nodes: &[u32; 48], items: &[u8; 80], d: &[u8], s: Running, at: usize) -> Move
     requires { ⌜ Good (now nodes) (now items) s × Roomy (sequentOf (now nodes) (now items) s) ⌝ }
     ensures { λ r. ⌜
         Moves
@@ -177,14 +211,17 @@ fn obey(nodes: &[u32; 48], items: &[u8; 80], s: Running, b: u8, x: u8, at: usize
         (obey (order b) x (sequentOf (now (nodes .entry)) (now (items .entry)) s))
         r ⌝ }
 {
-    let order = order_of(b);
+    let operand = at + 1;
+    let x = d[operand];
+    let order = order_of(d[at]);
     match order {
         Order::Close => {
             if closes(s, x) {
-                return Move::Closed;
+                return Move::Closed(2);
             }
             Move::Stop(Fault::NotClosed(at))
         }
+        Order::Pair => paired(items, d, s, x, at),
         Order::Reduce(side, k) => formula_named(nodes, items, s, side, k, x, at),
         Order::Unknown => Move::Stop(Fault::UnknownCommand(at)),
     }
@@ -199,11 +236,10 @@ fn walk(nodes: &[u32; 48], items: &[u8; 80], d: &[u8], s: Running, at: usize) ->
     if d.len() - at < 2 {
         return Walked::Stopped(Fault::CutShort(at));
     }
-    let operand = at + 1;
-    let next = obey(nodes, items, s, d[at], d[operand], at);
+    let next = obey(nodes, items, d, s, at);
     match next {
         Move::Stop(f) => Walked::Stopped(f),
-        Move::Closed => Walked::To(at + 2),
+        Move::Closed(n) => Walked::To(at + n),
         Move::Reduce(r) => {
             let t = walk_premises(nodes, items, d, s, r, at + 2);
             let walked = t.walked;

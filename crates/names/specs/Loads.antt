@@ -3,62 +3,90 @@ use mathlib.Core.Path.{_≡_}
 use mathlib.Core.List.{List, [], _∷_}
 use Prim.Native.Nat.{ℕ, _+_, _≤_, _<_}
 use lib.ListN.{length, take, getD}
+use lib.Seq.{slice}
 use Rattle.calculus.specs.declared.Side.{Side}
 use Rattle.calculus.specs.declared.Side.the-variants.{Left, Right}
-use Rattle.calculus.specs.Limits.{ROOM, CONNECTIVES}
-use Rattle.calculus.specs.Syntax.{Formula, Sequent, on-side, connectives, c, size}
+use Rattle.calculus.specs.Fold.{fold, SUM}
+use Rattle.calculus.specs.Limits.{ROOM, CONNECTIVES, LETTERS}
+use Rattle.calculus.specs.Syntax.{Formula, Sequent, on-side, connectives}
 use Rattle.calculus.specs.Bytes.{Lettered}
 use Rattle.question.specs.Positions.{Well, formulaAt, endOf}
-use Rattle.sequent.specs.Names.{name, Told}
-use Rattle.sequent.specs.View.{view, Masked}
+use Rattle.sequent.specs.Names.{nodeOf, Tells, Distinct, firstOf, secondOf}
+use Rattle.sequent.specs.View.{lettersOf, compoundsOf}
 use Rattle.names.specs.declared.Named.{Named}
 use Rattle.names.specs.declared.Loaded.{Loaded}
 
--- ---- one formula's connectives, counted from n
+-- ---- nodes
 
-abbrev pub named : List ℕ → ℕ → ℕ → Named
-named q at n =
-    record { name = name n (formulaAt q at); end = endOf q at; next = n + connectives (formulaAt q at) }
+-- the first n nodes: no two are equal, and the names of the parts of each are lower than its own
+pub record Nodes (T : List ℕ) (n : ℕ) : Type 0 where
+  pub distinct : Distinct T n
+  pub lower : (i : ℕ) → i < n → (firstOf (getD T i 0) < LETTERS + i) × (secondOf (getD T i 0) < LETTERS + i)
 
--- the nodes tell it, and those before it are as they were
-pub record Numbered (q : List ℕ) (at n : ℕ) (T R : List ℕ) : Type 0 where
-  pub told : Told R n (formulaAt q at)
-  pub kept : (k : ℕ) → k < n → getD R k 0 ≡ getD T k 0
+-- the first n nodes stay
+abbrev pub Kept : ℕ → List ℕ → List ℕ → Type 0
+Kept n T R = (k : ℕ) → k < n → getD R k 0 ≡ getD T k 0
+
+-- n nodes, and maybe one more: the name is that of the node w
+pub record Noted (w end n : ℕ) (T R : List ℕ) (r : Named) : Type 0 where
+  pub above : LETTERS ≤ r .name
+  pub below : r .name < LETTERS + r .next
+  pub held : nodeOf R (r .name) ≡ w
+  pub end : r .end ≡ end
+  pub more : n ≤ r .next
+  pub few : r .next ≤ n + 1
+  pub nodes : Nodes R (r .next)
+  pub kept : Kept n T R
   pub size : length R ≡ length T
+
+-- n nodes, and at most one more for each connective of the formula at a position: they tell what its name stands for
+pub record Numbered (q : List ℕ) (at n : ℕ) (T R : List ℕ) (r : Named) : Type 0 where
+  pub tells : Tells R (r .name) (formulaAt q at)
+  pub below : r .name < LETTERS + r .next
+  pub end : r .end ≡ endOf q at
+  pub more : n ≤ r .next
+  pub few : r .next ≤ n + connectives (formulaAt q at)
+  pub nodes : Nodes R (r .next)
+  pub kept : Kept n T R
+  pub size : length R ≡ length T
+
+-- a formula whose connectives can be numbered, where n nodes are in use
+pub record Numbers (q : List ℕ) (at n : ℕ) (T : List ℕ) : Type 0 where
+  pub well : Well q at
+  pub lettered : Lettered (formulaAt q at)
+  pub fits : n + connectives (formulaAt q at) ≤ CONNECTIVES
+  pub size : length T ≡ CONNECTIVES
+  pub nodes : Nodes T n
 
 -- ---- the formulas so far
 
--- the name of a formula whose connectives stand below e
-pub record Names (T : List ℕ) (e d : ℕ) (x : Formula) : Type 0 where
-  pub number : ℕ
-  pub named : d ≡ name number x
-  pub told : Told T number x
-  pub inside : number + connectives x ≤ e
-
+-- names, and the formulas that the first n nodes tell of them
 abbrev pub NamesAll : List ℕ → ℕ → List ℕ → List Formula → Type 0
-NamesAll T e [] [] = Unit {0}
-NamesAll T e [] (x ∷ xs) = ⊥
-NamesAll T e (d ∷ ds) [] = ⊥
-NamesAll T e (d ∷ ds) (x ∷ xs) = Names T e d x × NamesAll T e ds xs
+NamesAll T n [] [] = Unit {0}
+NamesAll T n [] (x ∷ xs) = ⊥
+NamesAll T n (d ∷ ds) [] = ⊥
+NamesAll T n (d ∷ ds) (x ∷ xs) = Tells T d x × (d < LETTERS + n) × NamesAll T n ds xs
 
-pub record Loads (T items : List ℕ) (l : Loaded) (S : Sequent) : Type 0 where
-  pub nodes : length T ≡ CONNECTIVES
-  pub places : length items ≡ ROOM
-  pub next : l .next ≡ c S
-  pub few : c S ≤ CONNECTIVES
-  pub count : l .running .lefts + l .running .rights ≡ size S
-  pub names : (t : Side) → NamesAll T (l .next) (on-side t (view (l .running) items)) (on-side t S)
-  pub masks : Masked (l .running) items
+-- the places so far name these formulas; those from `first` on are of the side that is being filled
+pub record Loads (T items : List ℕ) (first : ℕ) (l : Loaded) (xs : List Formula) : Type 0 where
+  pub size : length T ≡ CONNECTIVES
+  pub room : length items ≡ ROOM
+  pub nodes : Nodes T (l .next)
+  pub few : l .next ≤ fold SUM connectives xs
+  pub count : l .places ≡ length xs
+  pub names : NamesAll T (l .next) (take (l .places) items) xs
+  pub mask : l .mask ≡ lettersOf (slice first (l .places) items)
+  pub set : l .set ≡ compoundsOf (slice first (l .places) items)
+  pub inside : first ≤ l .places
 
--- a formula can come to them, at the end of a side: the left side is filled first
-pub record Enters (q : List ℕ) (t : Side) (l : Loaded) (S : Sequent) : Type 0 where
+-- a formula can come to them
+pub record Enters (q : List ℕ) (l : Loaded) (xs : List Formula) : Type 0 where
   pub well : Well q (l .end)
   pub lettered : Lettered (formulaAt q (l .end))
-  pub fits : c S + connectives (formulaAt q (l .end)) ≤ CONNECTIVES
-  pub room : size S < ROOM
-  pub last : t ≡ Left → l .running .rights ≡ 0
+  pub fits : fold SUM connectives xs + connectives (formulaAt q (l .end)) ≤ CONNECTIVES
+  pub room : length xs < ROOM
 
--- a question's formulas up to place i of a side
-abbrev pub upTo : Side → ℕ → Sequent → Sequent
-upTo Left i S = record { on-left = take i (S .on-left); on-right = [] }
-upTo Right i S = record { on-left = S .on-left; on-right = take i (S .on-right) }
+-- a question's formulas before a side's
+abbrev pub before : Side → Sequent → List Formula
+before Left S = []
+before Right S = S .on-left

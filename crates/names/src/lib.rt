@@ -1,29 +1,35 @@
-// The names of a question's formulas and their nodes, in one walk, and the running sequent that it starts from.
+// The names of a question's formulas and their nodes, in one walk, and the running sequent that it starts from. Equal formulas have
+// one name.
 use calculus::Side;
 use question::LETTERS;
 use sequent::Running;
 ghost use mathlib.Core.Path.{_≡_};
-ghost use Prim.Native.Nat.{_+_, _≤_, _<_};
-ghost use lib.ListN.{length, getD};
+ghost use mathlib.Core.List.{List, [], _∷_, _++_};
+ghost use Prim.Native.Nat.{ℕ, _+_, _≤_, _<_};
+ghost use lib.ListN.{length, take, getD};
 ghost use Rattle.calculus.specs.Limits.{LETTERS, CONNECTIVES, ROOM};
-ghost use Rattle.calculus.specs.Syntax.{Sequent, on-side, connectives};
-ghost use Rattle.calculus.specs.Bytes.{question, Lettered, sideStart, startOf};
+ghost use Rattle.calculus.specs.Syntax.{Formula, on-side};
+ghost use Rattle.calculus.specs.Bytes.{question, sideStart, startOf};
 ghost use Rattle.calculus.specs.Reading.{accepted, reading};
-ghost use Rattle.question.specs.Positions.{Well, formulaAt, endOf};
-ghost use Rattle.sequent.specs.Names.{node};
-ghost use Rattle.sequent.specs.View.{sequentOf, entered, Good};
-ghost use Rattle.names.specs.Loads.{named, Numbered, Loads, Enters, upTo};
+ghost use Rattle.question.specs.Positions.{formulaAt, endOf};
+ghost use Rattle.sequent.specs.Names.{node, firstOf, secondOf};
+ghost use Rattle.sequent.specs.View.{sequentOf, Good};
+ghost use Rattle.sequent.specs.Compounds.{Stands};
+ghost use Rattle.names.specs.Loads.{Nodes, Noted, Numbers, Numbered, Loads, Enters, before};
 
-// A formula's name, the position behind it and the number of the next connective.
+// A formula's name, the position behind it and the number of the next node.
 pub struct Named {
     pub name: u8,
     pub end: usize,
     pub next: usize,
 }
 
-// The formulas so far, the position behind them and the number of the next connective.
+// The places filled so far, the letters and the compounds of the side that is being filled, the position behind its formulas so
+// far and the number of the next node.
 pub struct Loaded {
-    pub running: Running,
+    pub places: usize,
+    pub mask: u32,
+    pub set: u64,
     pub end: usize,
     pub next: usize,
 }
@@ -41,16 +47,66 @@ fn name(n: usize) -> u8
     LETTERS + n as u8
 }
 
-// Numbers the connectives of the formula at a position, from n on, and notes their nodes.
-fn number(q: &[u8], nodes: &mut [u32; 48], at: usize, n: usize) -> Named
+// The place of an equal node among the first n, or n.
+fn place_of(nodes: &[u32; 48], n: usize, w: u32) -> usize
+    requires { ⌜ (n ≤ CONNECTIVES) × (length (now nodes) ≡ CONNECTIVES) ⌝ }
+    ensures { λ r. ⌜ Stands (now (nodes .entry)) 0 n w r ⌝ }
+{
+    let mut i = 0;
+    while i < n {
+        if nodes[i] == w {
+            return i;
+        }
+        i += 1;
+    }
+    n
+}
+
+// The name of the compound that has a node: that of an equal node, or the next.
+fn note(nodes: &mut [u32; 48], w: u32, end: usize, n: usize) -> Named
     requires { ⌜
-        Well (now q) at
-        × Lettered (formulaAt (now q) at)
-        × (n + connectives (formulaAt (now q) at) ≤ CONNECTIVES)
-        × (length (now nodes) ≡ CONNECTIVES) ⌝ }
-    ensures { λ r. ⌜
-        (r ≡ named (now (q .entry)) at n)
-        × Numbered (now (q .entry)) at n (now (nodes .entry)) (now (nodes .exit)) ⌝ }
+        (n < CONNECTIVES)
+        × (length (now nodes) ≡ CONNECTIVES)
+        × Nodes (now nodes) n
+        × (firstOf w < LETTERS + n)
+        × (secondOf w < LETTERS + n) ⌝ }
+    ensures { λ r. ⌜ Noted w end n (now (nodes .entry)) (now (nodes .exit)) r ⌝ }
+{
+    let i = place_of(nodes, n, w);
+    if i < n {
+        return Named {
+            name: name(i),
+            end: end,
+            next: n,
+        };
+    }
+    nodes[n] = w;
+    Named {
+        name: name(n),
+        end: end,
+        next: n + 1,
+    }
+}
+
+// Names the formula at a position, where n nodes are in use, and notes the nodes of its compounds.
+fn number(q: &[u8], nodes: &mut [u32; 48], at: usize, n: usize) -> Named
+    requires { ⌜ Numbers (now q) at n (now nodes) ⌝ }
+    ensures { λ r. ⌜ Numbered (now (q .entry)) at n (now (nodes .entry)) (now (nodes .exit)) r ⌝ }
+{
+    if q[at] == 1 {
+        return Named {
+            name: q[at + 1],
+            end: at + 2,
+            next: n,
+        };
+    }
+    number_parts(q, nodes, at, n)
+}
+
+// The same of a part: a letter needs no call.
+fn part(q: &[u8], nodes: &mut [u32; 48], at: usize, n: usize) -> Named
+    requires { ⌜ Numbers (now q) at n (now nodes) ⌝ }
+    ensures { λ r. ⌜ Numbered (now (q .entry)) at n (now (nodes .entry)) (now (nodes .exit)) r ⌝ }
 {
     if q[at] == 1 {
         return Named {
@@ -64,48 +120,34 @@ fn number(q: &[u8], nodes: &mut [u32; 48], at: usize, n: usize) -> Named
 
 // A compound: its parts, then itself.
 fn number_parts(q: &[u8], nodes: &mut [u32; 48], at: usize, n: usize) -> Named
-    requires { ⌜
-        Well (now q) at
-        × Lettered (formulaAt (now q) at)
-        × (n + connectives (formulaAt (now q) at) ≤ CONNECTIVES)
-        × (length (now nodes) ≡ CONNECTIVES)
-        × (getD (now q) at 0 ≡ 1 → ⊥) ⌝ }
-    ensures { λ r. ⌜
-        (r ≡ named (now (q .entry)) at n)
-        × Numbered (now (q .entry)) at n (now (nodes .entry)) (now (nodes .exit)) ⌝ }
+    requires { ⌜ Numbers (now q) at n (now nodes) × (getD (now q) at 0 ≡ 1 → ⊥) ⌝ }
+    ensures { λ r. ⌜ Numbered (now (q .entry)) at n (now (nodes .entry)) (now (nodes .exit)) r ⌝ }
 {
     let b = q[at];
-    let f = number(q, nodes, at + 1, n + 1);
+    let f = part(q, nodes, at + 1, n);
     if b == 2 {
-        nodes[n] = node(b, f.name, f.name);
-        return Named {
-            name: name(n),
-            end: f.end,
-            next: f.next,
-        };
+        return note(nodes, node(b, f.name, f.name), f.end, f.next);
     }
-    let g = number(q, nodes, f.end, f.next);
-    nodes[n] = node(b, f.name, g.name);
-    Named {
-        name: name(n),
-        end: g.end,
-        next: g.next,
-    }
+    let g = part(q, nodes, f.end, f.next);
+    note(nodes, node(b, f.name, g.name), g.end, g.next)
 }
 
-// The next formula comes to the end of a side.
-fn enter(q: &[u8], nodes: &mut [u32; 48], items: &mut [u8; 80], side: Side, l: Loaded) -> Loaded
-    requires { ⌜ ((S : Sequent) × Loads (now nodes) (now items) l S × Enters (now q) side l S) ⌝ }
+// The next formula of a side.
+fn enter(q: &[u8], nodes: &mut [u32; 48], items: &mut [u8; 80], l: Loaded) -> Loaded
+    requires { ⌜ ((first : ℕ) × (xs : List Formula) × Loads (now nodes) (now items) first l xs × Enters (now q) l xs) ⌝ }
     ensures { λ r. ⌜
-        ((S : Sequent) → Loads (now (nodes .entry)) (now (items .entry)) l S → Enters (now (q .entry)) side l S
-        → Loads (now (nodes .exit)) (now (items .exit)) r (entered side (formulaAt (now (q .entry)) (l .end)) S))
+        ((first : ℕ) (xs : List Formula) → Loads (now (nodes .entry)) (now (items .entry)) first l xs → Enters (now (q .entry)) l xs
+        → Loads (now (nodes .exit)) (now (items .exit)) first r (xs ++ (formulaAt (now (q .entry)) (l .end) ∷ [])))
+        × (take (l .places) (now (items .exit)) ≡ take (l .places) (now (items .entry)))
         × (r .end ≡ endOf (now (q .entry)) (l .end)) ⌝ }
 {
     let f = number(q, nodes, l.end, l.next);
-    let s = l.running;
-    let r = s.push(items, side, f.name);
+    let n = l.places;
+    items[n] = f.name;
     Loaded {
-        running: r,
+        places: n + 1,
+        mask: l.mask | sequent::letter_bit(f.name),
+        set: l.set | sequent::compound_bit(f.name),
         end: f.end,
         next: f.next,
     }
@@ -116,17 +158,22 @@ fn load(q: &[u8], nodes: &mut [u32; 48], items: &mut [u8; 80], side: Side, start
     requires { ⌜
         (reading (now q) ≡ accepted)
         × (start .end ≡ sideStart side (question (now q)))
-        × Loads (now nodes) (now items) start (upTo side 0 (question (now q))) ⌝ }
+        × Loads (now nodes) (now items) (start .places) start (before side (question (now q))) ⌝ }
     ensures { λ r. ⌜
-        Loads (now (nodes .exit)) (now (items .exit)) r
-        (upTo side (length (on-side side (question (now (q .entry))))) (question (now (q .entry))))
+        Loads
+        (now (nodes .exit))
+        (now (items .exit))
+        (start .places)
+        r
+        (before side (question (now (q .entry))) ++ on-side side (question (now (q .entry))))
+        × (take (start .places) (now (items .exit)) ≡ take (start .places) (now (items .entry)))
         × (r .end ≡ startOf side (length (on-side side (question (now (q .entry))))) (question (now (q .entry)))) ⌝ }
 {
     let n = question::side_count(q, side, start.end);
     let mut l = start;
     let mut i = 0;
     while i < n {
-        l = enter(q, nodes, items, side, l);
+        l = enter(q, nodes, items, l);
         i += 1;
     }
     l
@@ -140,25 +187,28 @@ pub fn root(q: &[u8], nodes: &mut [u32; 48], items: &mut [u8; 80]) -> Running
         Good (now (nodes .exit)) (now (items .exit)) r
         × (sequentOf (now (nodes .exit)) (now (items .exit)) r ≡ question (now (q .entry))) ⌝ }
 {
-    let empty = Running {
-        lefts: 0,
-        rights: 0,
-        leftmask: 0,
-        rightmask: 0,
-    };
     let start = Loaded {
-        running: empty,
+        places: 0,
+        mask: 0,
+        set: 0,
         end: 2,
         next: 0,
     };
     let left = load(q, nodes, items, Side::Left, start);
-    let s = left.running;
     let between = Loaded {
-        running: s,
+        places: left.places,
+        mask: 0,
+        set: 0,
         end: left.end + 2,
         next: left.next,
     };
-    let all = load(q, nodes, items, Side::Right, between);
-    let r = all.running;
-    r
+    let right = load(q, nodes, items, Side::Right, between);
+    Running {
+        lefts: left.places,
+        rights: right.places - left.places,
+        leftmask: left.mask,
+        rightmask: right.mask,
+        leftset: left.set,
+        rightset: right.set,
+    }
 }

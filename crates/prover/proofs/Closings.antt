@@ -8,37 +8,22 @@ use mathlib.Core.List.{List}
 use Prim.Native.Nat.{ℕ, zero, suc, _/_, _%_, _^_, min, _≤_, _<_}
 use native.Mathlib.Nat.{pow-suc}
 use native.Mathlib.Omega.{arith}
-use lib.Bits.{bitAnd, and-step, and-lt}
+use lib.Bits.{bitAnd, and-lt}
 use lib.Count.{trailingZeros, under}
 use lib.Dec.{eqb}
 use Rattle.calculus.specs.Limits.{LETTERS}
 use Rattle.calculus.specs.Truth.{bit}
 use Rattle.calculus.specs.Tree.{among, common, state}
 use Rattle.calculus.proofs.Folds.{and-both, not-so}
+use Rattle.calculus.proofs.Bits.{bit-and}
 use Rattle.calculus.proofs.Trees.{bit-state, bit-zero, Shared, shared, lowest}
 
--- ---- bits of `&`
-
-and-half : (a b : ℕ) → bitAnd a b / 2 ≡ bitAnd (a / 2) (b / 2)
-and-half a b = omega (arith, and-step a b)
-
-and-odd : (a b : ℕ) → bitAnd a b % 2 ≡ min (a % 2) (b % 2)
-and-odd a b = omega (arith, and-step a b)
+-- ---- bits
 
 low : (x : ℕ) → x < 2 → (x ≡ 0) ⊎ (x ≡ 1)
 low zero h = inl refl
 low (suc zero) h = inr refl
 low (suc (suc x)) h = absurd (omega arith)
-
-pub bit-and : (k a b : ℕ) → bit k (bitAnd a b) ≡ (bit k a && bit k b)
-bit-and zero a b = rw (and-odd a b) (go (low (a % 2) (omega arith)) (low (b % 2) (omega arith)))
-  where
-    go : (a % 2 ≡ 0) ⊎ (a % 2 ≡ 1) → (b % 2 ≡ 0) ⊎ (b % 2 ≡ 1) → eqb (min (a % 2) (b % 2)) 1 ≡ (eqb (a % 2) 1 && eqb (b % 2) 1)
-    go (inl h) (inl k) = rw (h, k)
-    go (inl h) (inr k) = rw (h, k)
-    go (inr h) (inl k) = rw (h, k)
-    go (inr h) (inr k) = rw (h, k)
-bit-and (suc k) a b = rw (and-half a b) (bit-and k (a / 2) (b / 2))
 
 no-bits : (n a : ℕ) → a < 2 ^ n → ((k : ℕ) → bit k a ≡ false) → a ≡ 0
 no-bits zero a h f = omega arith

@@ -5,6 +5,7 @@ use calculus::Side;
 use calculus::Verdict;
 use question::Reading;
 use question::Refusal;
+use sequent::Pair;
 use sequent::Place;
 use sequent::Placing;
 use sequent::ROOM;
@@ -31,6 +32,8 @@ ghost use Rattle.prover.specs.Runs.{ended, Ran, Comes};
 pub enum Finding {
     // A letter stands on both sides: the lowest.
     Closed(u32),
+    // A compound stands on both sides: its left place and its right place.
+    Paired(usize, usize),
     // No connective is left: the state.
     Open(u32),
     Full,
@@ -44,6 +47,7 @@ pub struct Reduced {
     pub kind: Kind,
     pub unspent: u64,
     pub closings: u64,
+    pub pairings: u64,
     pub stores: usize,
 }
 
@@ -53,8 +57,10 @@ fn overfull(r: Reduction, n: usize) -> bool
     requires { ⌜ (n ≤ Limits.ROOM) × ((k : Connective) × (code (CONNECTIVE k) ≡ r .node % 256)) ⌝ }
     ensures { λ b. ⌜ b ≡ overfullOf (ruleFor r) n ⌝ }
 {
-    let rule = r.rule();
-    ROOM + 1 < n + sequent::placed(rule.first)
+    if r.command() == 2 {
+        return false;
+    }
+    ROOM <= n
 }
 
 // The tests at a sequent whose first compound is at a place of a side: FULL, SPENT, then the reduction.
@@ -97,6 +103,15 @@ pub fn step(nodes: &[u32; 48], items: &[u8; 80], s: Running, from: usize, left: 
     if shared != 0 {
         return Finding::Closed(u32::trailing_zeros(shared));
     }
+    let twins = s.twins(items);
+    match twins {
+        Pair::Both(i, j) => Finding::Paired(i, j),
+        Pair::Neither => first_due(nodes, items, s, from, left),
+    }
+}
+
+// The tests at a sequent that is not closed.
+fn first_due(nodes: &[u32; 48], items: &[u8; 80], s: Running, from: usize, left: u64) -> Finding {
     let place = s.first_compound(items, from);
     match place {
         Place::At(side, at) => due_at(nodes, items, s, side, at, left),
@@ -104,13 +119,14 @@ pub fn step(nodes: &[u32; 48], items: &[u8; 80], s: Running, from: usize, left: 
     }
 }
 
-fn ended(kind: Kind, left: u64, closings: u64) -> Outcome
-    ensures { λ r. ⌜ r ≡ ended kind left closings ⌝ }
+fn ended(kind: Kind, left: u64, closings: u64, pairings: u64) -> Outcome
+    ensures { λ r. ⌜ r ≡ ended kind left closings pairings ⌝ }
 {
     Outcome {
         kind: kind,
         unspent: left,
         closings: closings,
+        pairings: pairings,
     }
 }
 
@@ -124,14 +140,15 @@ fn run(nodes: &[u32; 48], items: &[u8; 80], s: Running, from: usize, left: u64) 
 {
     let due = step(nodes, items, s, from, left);
     match due {
-        Finding::Closed(_) => ended(Kind::Theorem, left, 1),
-        Finding::Open(state) => ended(Kind::Refuted(state), left, 0),
-        Finding::Full => ended(Kind::Full, left, 0),
-        Finding::Spent => ended(Kind::Spent, left, 0),
+        Finding::Closed(_) => ended(Kind::Theorem, left, 1, 0),
+        Finding::Paired(_, _) => ended(Kind::Theorem, left, 1, 1),
+        Finding::Open(state) => ended(Kind::Refuted(state), left, 0, 0),
+        Finding::Full => ended(Kind::Full, left, 0, 0),
+        Finding::Spent => ended(Kind::Spent, left, 0, 0),
         Finding::Reduce(r) => {
             let o = reduce(nodes, items, s, r, left - 1);
             let kind = o.kind;
-            ended(kind, o.unspent, o.closings)
+            ended(kind, o.unspent, o.closings, o.pairings)
         }
     }
 }
@@ -161,6 +178,7 @@ fn run_premise(
         kind: kind,
         unspent: o.unspent,
         closings: o.closings,
+        pairings: o.pairings,
         stores: made.stores,
     }
 }
@@ -175,12 +193,14 @@ fn reduce(nodes: &[u32; 48], items: &[u8; 80], s: Running, r: Reduction, left: u
     let mut p = rule.first;
     let mut unspent = left;
     let mut closings = 0;
+    let mut pairings = 0;
     let mut stores = 0;
     let mut j = 0;
     while j < n {
         let o = run_premise(nodes, items, s, r, p, unspent);
         unspent = o.unspent;
         closings += o.closings;
+        pairings += o.pairings;
         stores += o.stores;
         let kind = o.kind;
         match kind {
@@ -190,6 +210,7 @@ fn reduce(nodes: &[u32; 48], items: &[u8; 80], s: Running, r: Reduction, left: u
                     kind: kind,
                     unspent: unspent,
                     closings: closings,
+                    pairings: pairings,
                     stores: stores,
                 };
             }
@@ -201,19 +222,27 @@ fn reduce(nodes: &[u32; 48], items: &[u8; 80], s: Running, r: Reduction, left: u
         kind: Kind::Theorem,
         unspent: unspent,
         closings: closings,
+        pairings: pairings,
         stores: stores,
     }
 }
 
-// The verdict of an accepted question.
-pub fn verdict_of(q: &[u8], budget: u64) -> Verdict
+// What the run of an accepted question comes to.
+pub fn outcome_of(q: &[u8], budget: u64) -> Outcome
     requires { ⌜ reading (now q) ≡ accepted ⌝ }
-    ensures { λ r. ⌜ r ≡ verdict budget (question (now (q .entry))) ⌝ }
+    ensures { λ r. ⌜ r ≡ outcome budget (question (now (q .entry))) ⌝ }
 {
     let mut nodes = [0u32; 48];
     let mut items = [0u8; 80];
     let s = names::root(q, &mut nodes, &mut items);
-    let o = run(&nodes, &items, s, 0, budget);
+    run(&nodes, &items, s, 0, budget)
+}
+
+// The verdict under a budget, from what the run comes to.
+pub fn verdict_of(o: Outcome, budget: u64) -> Verdict
+    requires { ⌜ o .unspent ≤ budget ⌝ }
+    ensures { λ r. ⌜ r ≡ verdictOf budget o ⌝ }
+{
     let kind = o.kind;
     Verdict {
         kind: kind,
@@ -234,7 +263,7 @@ pub fn decide(q: &[u8], budget: u64) -> Decision
 {
     let reading = question::read(q);
     match reading {
-        Reading::Accepted => Decision::Decided(verdict_of(q, budget)),
+        Reading::Accepted => Decision::Decided(verdict_of(outcome_of(q, budget), budget)),
         Reading::Refused(r) => Decision::Refused(r),
     }
 }

@@ -17,32 +17,37 @@ use Rattle.calculus.specs.Limits.{ROOM, LETTERS, CONNECTIVES}
 use Rattle.calculus.specs.Syntax.{Connective, NOT, two, Formula, letter, neg, join, Compound, compound, whole, Seq, Sequent, on-side, c, size}
 use Rattle.calculus.specs.Bytes.{CONNECTIVE, code}
 use Rattle.calculus.specs.Table.{premise, premises, table}
-use Rattle.calculus.specs.Tree.{letters, state, missing, here, later, first}
-use Rattle.calculus.proofs.Folds.{each-append}
+use Rattle.calculus.specs.Tree.{letters, twins, unlike, alike, state, missing, here, later, first}
+use Rattle.calculus.specs.Derivation.{Pairs}
 use Rattle.calculus.proofs.Sequents.{Due, Smaller, smaller}
+use Rattle.calculus.proofs.Trees.{alike-only}
 use Rattle.sequent.specs.declared.Placing.{Placing}
 use Rattle.sequent.specs.declared.Running.{Running}
 use Rattle.sequent.specs.declared.Built.{Built}
 use Rattle.sequent.specs.declared.Reduction.{Reduction}
+use Rattle.sequent.specs.declared.Pair.{Pair}
+use Rattle.sequent.specs.declared.Pair.the-variants.{Both, Neither}
 use Rattle.sequent.specs.declared.Place.the-variants.{At, Nowhere}
 use Rattle.sequent.specs.Names.{firstOf, secondOf, formulaIn, Known}
 use Rattle.sequent.specs.Rule.{ruleOf, partsOn, placed, premisesOf, sided, placings, overfullOf}
 use Rattle.sequent.specs.View.{view, countOf, maskOf, slotOf, startOf, nameAt, named, sequentOf, bitOf, lettersOf, Good}
 use Rattle.sequent.specs.Passes.{Builds}
-use Rattle.sequent.specs.Compounds.{firstIn, Clear, Found, compoundOf, IsCompound, compoundAt, ruleFor, reductionAt, premisesAt, premiseBy, Reducible, Makes}
-use Rattle.sequent.proofs.Lists.{on-left, on-right, element, each-splice, each-parts, each-at, each-unmap, ones}
+use Rattle.sequent.specs.Compounds.{firstIn, Clear, Found, EqualAt, Paired, twinsOf, compoundOf, IsCompound, compoundAt, ruleFor, reductionAt, premisesAt, premiseBy, Reducible, Makes}
+use Rattle.sequent.proofs.Lists.{element, element-is, each-parts, each-premise, each-at, each-unmap, ones}
 use Rattle.sequent.proofs.Rows.{rows-of}
 use Rattle.sequent.proofs.Masks.{letterBit, state-fold, OR}
 use Rattle.sequent.proofs.Letters.{masked-premise}
-use Rattle.sequent.proofs.Namings.{letter-named, Compounded, compound-named, rule-connective}
+use Rattle.sequent.proofs.Sets.{covered-premise}
+use Rattle.sequent.proofs.Twins.{held as names-held, slot-name as name-at-slot}
+use Rattle.sequent.proofs.Namings.{letter-named, same-name, Compounded, compound-named, rule-connective}
 use Rattle.sequent.proofs.Rules.{rule-premises, rule-full, size-named}
 use Rattle.sequent.proofs.Placings.{OneOrTwo, one-or-two, Next, next-each}
 use Rattle.sequent.proofs.Restarts.{restarts}
 
 -- ---- names that are known: their letters, and the first compound
 
-module _ (T : List ℕ) (full : length T ≡ CONNECTIVES) where
-  name-bit : (d : ℕ) → Known T d → bitOf d ≡ letterBit (formulaIn T d)
+module _ (T : List ℕ) (full : length T ≡ CONNECTIVES) (n : ℕ) (few : n ≤ CONNECTIVES) where
+  name-bit : (d : ℕ) → Known T n d → bitOf d ≡ letterBit (formulaIn T d)
   name-bit d k = go (decLt d LETTERS)
     where
       none : (x : Formula) → x ≡ whole (compoundOf x) → 0 ≡ letterBit x
@@ -53,13 +58,13 @@ module _ (T : List ℕ) (full : length T ≡ CONNECTIVES) where
           by (two b) = refl
 
       go : Dec (d < LETTERS) → bitOf d ≡ letterBit (formulaIn T d)
-      go (yes h) = rw (lt-ltb d LETTERS h, letter-named T full d k h)
-      go (no h) = rw (le-ltb d LETTERS (omega arith)) (none (formulaIn T d) (compound-named T full d k (omega arith) .stands))
+      go (yes h) = rw (lt-ltb d LETTERS h, letter-named T full n few d k h)
+      go (no h) = rw (le-ltb d LETTERS (omega arith)) (none (formulaIn T d) (compound-named T full n few d k (omega arith) .stands))
 
-  names-letters : (ns : List ℕ) → Each (Known T) ns → lettersOf ns ≡ state (letters (map (formulaIn T) ns))
+  names-letters : (ns : List ℕ) → Each (Known T n) ns → lettersOf ns ≡ state (letters (map (formulaIn T) ns))
   names-letters ns h = go ns h ∙ sym (state-fold (map (formulaIn T) ns))
     where
-      go : (ns : List ℕ) → Each (Known T) ns → lettersOf ns ≡ fold OR letterBit (map (formulaIn T) ns)
+      go : (ns : List ℕ) → Each (Known T n) ns → lettersOf ns ≡ fold OR letterBit (map (formulaIn T) ns)
       go [] h = refl
       go (d ∷ ns) h = rw (name-bit d (h .0), go ns (h .1))
 
@@ -68,7 +73,7 @@ module _ (T : List ℕ) (full : length T ≡ CONNECTIVES) where
   first-compound (neg x) xs e = refl
   first-compound (join b x y) xs e = refl
 
-  first-found : (ns : List ℕ) → Each (Known T) ns → firstIn ns < length ns → first (map (formulaIn T) ns) ≡ here (firstIn ns) (compoundOf (formulaIn T (getD ns (firstIn ns) 0)))
+  first-found : (ns : List ℕ) → Each (Known T n) ns → firstIn ns < length ns → first (map (formulaIn T) ns) ≡ here (firstIn ns) (compoundOf (formulaIn T (getD ns (firstIn ns) 0)))
   first-found [] k h = absurd (omega arith)
   first-found (d ∷ ns) k h = go (decLt d LETTERS) (first-found ns (k .1))
     where
@@ -76,44 +81,83 @@ module _ (T : List ℕ) (full : length T ≡ CONNECTIVES) where
       go (yes l) ih =
           let e = lt-ltb d LETTERS l in
           let i : firstIn ns < length ns = omega (arith, rw e at h) in
-          rw (letter-named T full d (k .0) l, e) (ap later (ih i))
+          rw (letter-named T full n few d (k .0) l, e) (ap later (ih i))
       go (no l) ih =
-          rw (le-ltb d LETTERS (omega arith)) (first-compound (formulaIn T d) (map (formulaIn T) ns) (compound-named T full d (k .0) (omega arith) .stands))
+          rw (le-ltb d LETTERS (omega arith)) (first-compound (formulaIn T d) (map (formulaIn T) ns) (compound-named T full n few d (k .0) (omega arith) .stands))
 
-  first-missing : (ns : List ℕ) → Each (Known T) ns → firstIn ns ≡ length ns → first (map (formulaIn T) ns) ≡ missing
+  first-missing : (ns : List ℕ) → Each (Known T n) ns → firstIn ns ≡ length ns → first (map (formulaIn T) ns) ≡ missing
   first-missing [] k h = refl
   first-missing (d ∷ ns) k h = go (decLt d LETTERS) (first-missing ns (k .1))
     where
       go : Dec (d < LETTERS) → (firstIn ns ≡ length ns → first (map (formulaIn T) ns) ≡ missing) → first (map (formulaIn T) (d ∷ ns)) ≡ missing
       go (yes l) ih =
           let i : firstIn ns ≡ length ns = omega (arith, rw (lt-ltb d LETTERS l) at h) in
-          rw (letter-named T full d (k .0) l) (ap later (ih i))
+          rw (letter-named T full n few d (k .0) l) (ap later (ih i))
       go (no l) ih = absurd (omega (arith, rw (le-ltb d LETTERS (omega arith)) at h))
 
 -- ---- a running sequent
 
 module _ (T items : List ℕ) (s : Running) (good : Good T items s) where
-  -- each side's names are as many as its count says
   pub held : (t : Side) → length (on-side t (view s items)) ≡ countOf t s
-  held Left = length-take-le (s .lefts) items (omega (arith, good .room, good .places))
-  held Right = length-take-le (s .rights) (drop (s .lefts) items) (omega (arith, good .room, good .places, length-drop (s .lefts) items))
+  held = names-held s items (good .places) (good .room)
 
   pub size-held : size (view s items) ≡ s .lefts + s .rights
   size-held = omega (arith, ones (view s items .on-left), ones (view s items .on-right), held Left, held Right)
 
   pub masks-state : (t : Side) → maskOf t s ≡ state (letters (on-side t (sequentOf T items s)))
-  masks-state Left = good .masks Left ∙ names-letters T (good .nodes) (view s items .on-left) (good .known Left)
-  masks-state Right = good .masks Right ∙ names-letters T (good .nodes) (view s items .on-right) (good .known Right)
+  masks-state Left = good .masks Left ∙ names-letters T (good .nodes) (good .used) (good .few) (view s items .on-left) (good .known Left)
+  masks-state Right = good .masks Right ∙ names-letters T (good .nodes) (good .used) (good .few) (view s items .on-right) (good .known Right)
 
   -- "the first formula with a connective, the left side before the right"
   pub found-left : (i : ℕ) → Found (view s items) (At Left i) → first (sequentOf T items s .on-left) ≡ here i (compoundAt T Left i (view s items))
-  found-left i h = rw (h .0) (first-found T (good .nodes) (view s items .on-left) (good .known Left) (rw (h .0) at (h .1)))
+  found-left i h = rw (h .0) (first-found T (good .nodes) (good .used) (good .few) (view s items .on-left) (good .known Left) (rw (h .0) at (h .1)))
 
   pub found-right : (i : ℕ) → Found (view s items) (At Right i) → (first (sequentOf T items s .on-left) ≡ missing) × (first (sequentOf T items s .on-right) ≡ here i (compoundAt T Right i (view s items)))
-  found-right i h = (first-missing T (good .nodes) (view s items .on-left) (good .known Left) (h .0), rw (h .1) (first-found T (good .nodes) (view s items .on-right) (good .known Right) (rw (h .1) at (h .2))))
+  found-right i h = (first-missing T (good .nodes) (good .used) (good .few) (view s items .on-left) (good .known Left) (h .0), rw (h .1) (first-found T (good .nodes) (good .used) (good .few) (view s items .on-right) (good .known Right) (rw (h .1) at (h .2))))
 
   pub found-nowhere : Found (view s items) Nowhere → (first (sequentOf T items s .on-left) ≡ missing) × (first (sequentOf T items s .on-right) ≡ missing)
-  found-nowhere h = (first-missing T (good .nodes) (view s items .on-left) (good .known Left) (h .0), first-missing T (good .nodes) (view s items .on-right) (good .known Right) (h .1))
+  found-nowhere h = (first-missing T (good .nodes) (good .used) (good .few) (view s items .on-left) (good .known Left) (h .0), first-missing T (good .nodes) (good .used) (good .few) (view s items .on-right) (good .known Right) (h .1))
+
+  -- "the lowest left place that has an equal on the right, with the lowest such right place"
+  equal-formulas : (i j : ℕ) → EqualAt (view s items) i j → Pairs i j (sequentOf T items s)
+  equal-formulas i j e =
+      let l = each-at (Known T (good .used)) (view s items .on-left) i 0 (good .known Left) (e .left) in
+      let n = nameAt Left i (view s items) in
+      let w = compound-named T (good .nodes) (good .used) (good .few) n l (e .compound) .stands in
+      record {
+        x = compoundAt T Left i (view s items);
+        lefts = element (formulaIn T) (view s items .on-left) i 0 (e .left) ∙ ap {B = Option Formula} some w;
+        rights = element (formulaIn T) (view s items .on-right) j 0 (e .right) ∙ ap (λ (d : ℕ). some (formulaIn T d)) (sym (e .equal)) ∙ ap {B = Option Formula} some w;
+      }
+
+  equal-names : (i j : ℕ) → Pairs i j (sequentOf T items s) → EqualAt (view s items) i j
+  equal-names i j e =
+      let l = element-is (formulaIn T) (view s items .on-left) i 0 (whole (e .x)) (e .lefts) in
+      let r = element-is (formulaIn T) (view s items .on-right) j 0 (whole (e .x)) (e .rights) in
+      let k = each-at (Known T (good .used)) (view s items .on-left) i 0 (good .known Left) (l .0) in
+      let m = each-at (Known T (good .used)) (view s items .on-right) j 0 (good .known Right) (r .0) in
+      record {
+        left = l .0;
+        right = r .0;
+        compound = above (nameAt Left i (view s items)) k (e .x) (l .1);
+        equal = same-name T (good .nodes) (good .used) (good .few) (good .distinct) (nameAt Left i (view s items)) (nameAt Right j (view s items)) k m (l .1 ∙ sym (r .1));
+      }
+    where
+      none : (d : ℕ) (k : Connective) (f g : Formula) → letter d ≡ compound k f g → ⊥
+      none d NOT f g e = let z : _≡_ {A = ℕ} 0 1 = cc in omega arith
+      none d (two b) f g e = let z : _≡_ {A = ℕ} 0 1 = cc in omega arith
+
+      above : (d : ℕ) → Known T (good .used) d → (x : Compound) → formulaIn T d ≡ whole x → LETTERS ≤ d
+      above d k x e = go (decLt d LETTERS)
+        where
+          go : Dec (d < LETTERS) → LETTERS ≤ d
+          go (yes h) = absurd (none d (x .connective) (x .f) (x .g) (sym (letter-named T (good .nodes) (good .used) (good .few) d k h) ∙ e))
+          go (no h) = omega arith
+
+  pub twins-are : (r : Pair) → Paired (view s items) r → twins (sequentOf T items s .on-left) (sequentOf T items s .on-right) ≡ twinsOf r
+  twins-are (Both i j) h =
+      alike-only (sequentOf T items s .on-left) (sequentOf T items s .on-right) (alike i j) (equal-formulas i j (h .0), λ m n e. h .1 m n (equal-names m n e))
+  twins-are Neither h = alike-only (sequentOf T items s .on-left) (sequentOf T items s .on-right) unlike (λ m n e. h m n (equal-names m n e))
 
   -- ---- a place of a side
 
@@ -122,14 +166,10 @@ module _ (T items : List ℕ) (s : Running) (good : Good T items s) where
     inside = omega (arith, held t)
 
     pub slot-name : getD items (slotOf t i s) 0 ≡ nameAt t i (view s items)
-    slot-name = go t h
-      where
-        go : (u : Side) → i < countOf u s → getD items (slotOf u i s) 0 ≡ nameAt u i (view s items)
-        go Left k = sym (getD-take (s .lefts) items i 0 k)
-        go Right k = sym (getD-take (s .rights) (drop (s .lefts) items) i 0 k ∙ getD-drop (s .lefts) items i 0)
+    slot-name = name-at-slot s items (good .places) (good .room) t i h
 
-    pub known-at : Known T (nameAt t i (view s items))
-    known-at = each-at (Known T) (on-side t (view s items)) i 0 (good .known t) inside
+    pub known-at : Known T (good .used) (nameAt t i (view s items))
+    known-at = each-at (Known T (good .used)) (on-side t (view s items)) i 0 (good .known t) inside
 
     pub formula-at : getElem? (on-side t (sequentOf T items s)) i ≡ some (formulaIn T (nameAt t i (view s items)))
     formula-at = go t inside
@@ -139,8 +179,8 @@ module _ (T items : List ℕ) (s : Running) (good : Good T items s) where
         go Right k = element (formulaIn T) (view s items .on-right) i 0 k
 
     module _ (c : LETTERS ≤ nameAt t i (view s items)) where
-      pub compounded : Compounded T (good .nodes) (nameAt t i (view s items))
-      compounded = compound-named T (good .nodes) (nameAt t i (view s items)) known-at c
+      pub compounded : Compounded T (good .nodes) (good .used) (good .few) (nameAt t i (view s items))
+      compounded = compound-named T (good .nodes) (good .used) (good .few) (nameAt t i (view s items)) known-at c
 
       -- the compound stands there
       pub stands : Due (sequentOf T items s) t i (compoundAt T t i (view s items))
@@ -151,7 +191,7 @@ module _ (T items : List ℕ) (s : Running) (good : Good T items s) where
         x = compoundAt T t i (view s items)
 
         rule-is : ruleFor r ≡ ruleOf (x .connective) t
-        rule-is = ap ruleFor e ∙ ap (λ (k : Connective). ruleOf k t) (rule-connective T (good .nodes) (nameAt t i (view s items)) compounded)
+        rule-is = ap ruleFor e ∙ ap (λ (k : Connective). ruleOf k t) (rule-connective T (good .nodes) (good .used) (good .few) (nameAt t i (view s items)) compounded)
 
         rows : premisesOf (ruleFor r) ≡ map sided (table (x .connective) t)
         rows = rows-of (x .connective) t (ruleFor r) rule-is
@@ -175,17 +215,11 @@ module _ (T items : List ℕ) (s : Running) (good : Good T items s) where
         -- ---- a premise made
 
         module _ (p : Placing) (before new : List ℕ) (b : Built) (builds : Builds t i p (firstOf (r .node)) (secondOf (r .node)) s items before new b) (small : size (premiseOf p) ≤ ROOM) where
-          known-parts : (u : Side) → Each (Known T) (partsOn u p (firstOf (r .node)) (secondOf (r .node)))
+          known-parts : (u : Side) → Each (Known T (good .used)) (partsOn u p (firstOf (r .node)) (secondOf (r .node)))
           known-parts u =
-              each-parts (Known T) u p (firstOf (r .node)) (secondOf (r .node))
-              (subst (Known T) (sym (ap (λ (v : Reduction). firstOf (v .node)) e)) (compounded .first-known))
-              (subst (Known T) (sym (ap (λ (v : Reduction). secondOf (v .node)) e)) (compounded .second-known))
-
-          known-premise : (v u : Side) → Each (Known T) (on-side u (premise v i (view s items) (placed p (firstOf (r .node)) (secondOf (r .node)))))
-          known-premise Left Left = rw (on-left (partsOn Left p (firstOf (r .node)) (secondOf (r .node))) (partsOn Right p (firstOf (r .node)) (secondOf (r .node)))) (each-splice (Known T) i (partsOn Left p (firstOf (r .node)) (secondOf (r .node))) (view s items .on-left) (known-parts Left) (good .known Left))
-          known-premise Left Right = rw (on-right (partsOn Left p (firstOf (r .node)) (secondOf (r .node))) (partsOn Right p (firstOf (r .node)) (secondOf (r .node)))) (each-append (Known T) (view s items .on-right) (partsOn Right p (firstOf (r .node)) (secondOf (r .node))) (good .known Right) (known-parts Right))
-          known-premise Right Left = rw (on-left (partsOn Left p (firstOf (r .node)) (secondOf (r .node))) (partsOn Right p (firstOf (r .node)) (secondOf (r .node)))) (each-append (Known T) (view s items .on-left) (partsOn Left p (firstOf (r .node)) (secondOf (r .node))) (good .known Left) (known-parts Left))
-          known-premise Right Right = rw (on-right (partsOn Left p (firstOf (r .node)) (secondOf (r .node))) (partsOn Right p (firstOf (r .node)) (secondOf (r .node)))) (each-splice (Known T) i (partsOn Right p (firstOf (r .node)) (secondOf (r .node))) (view s items .on-right) (known-parts Right) (good .known Right))
+              each-parts (Known T (good .used)) u p (firstOf (r .node)) (secondOf (r .node))
+              (subst (Known T (good .used)) (sym (ap (λ (v : Reduction). firstOf (v .node)) e)) (compounded .first-known))
+              (subst (Known T (good .used)) (sym (ap (λ (v : Reduction). secondOf (v .node)) e)) (compounded .second-known))
 
           pub premise-good : Good T new (b .running)
           premise-good =
@@ -193,8 +227,12 @@ module _ (T items : List ℕ) (s : Running) (good : Good T items s) where
                 nodes = good .nodes;
                 places = builds .full;
                 room = omega (arith, builds .counted, builds .stores, small, size-named (formulaIn T) (premise t i (view s items) (placed p (firstOf (r .node)) (secondOf (r .node)))));
-                known = λ u. subst (λ (N : Seq ℕ). Each (Known T) (on-side u N)) (sym (builds .held)) (known-premise t u);
+                used = good .used;
+                few = good .few;
+                distinct = good .distinct;
+                known = λ u. subst (λ (N : Seq ℕ). Each (Known T (good .used)) (on-side u N)) (sym (builds .held)) (each-premise (Known T (good .used)) t u i (view s items) p (firstOf (r .node)) (secondOf (r .node)) (known-parts u) (good .known u));
                 masks = masked-premise s (b .running) items new t i p (firstOf (r .node)) (secondOf (r .node)) (good .masks) inside c (builds .held) (builds .masks);
+                sets = covered-premise s (b .running) items new t i p (firstOf (r .node)) (secondOf (r .node)) (good .sets) (builds .held) (builds .sets);
               }
 
   -- ---- a reduction that can be made
@@ -206,8 +244,8 @@ module _ (T items : List ℕ) (s : Running) (good : Good T items s) where
     pub few : OneOrTwo (ruleFor r)
     few = rw (rule-is (r .side) (r .at) (can .inside) (can .compound) r (can .exact)) (one-or-two (compoundAt T (r .side) (r .at) (view s items) .connective) (r .side))
 
-    each-premise : (Q : Sequent → Type 0) → Each Q (premisesAt T items s r) → Each (λ p. Q (premiseBy T items s r p)) (placings (ruleFor r))
-    each-premise Q h = each-unmap (premiseBy T items s r) Q (placings (ruleFor r)) (subst (Each Q) (sym premises-made) h)
+    each-made : (Q : Sequent → Type 0) → Each Q (premisesAt T items s r) → Each (λ p. Q (premiseBy T items s r p)) (placings (ruleFor r))
+    each-made Q h = each-unmap (premiseBy T items s r) Q (placings (ruleFor r)) (subst (Each Q) (sym premises-made) h)
 
     fewer : Each (λ P. 1 + c P ≤ c (sequentOf T items s)) (premisesAt T items s r)
     fewer = go (premisesAt T items s r) (smaller (r .side) (r .at) (compoundAt T (r .side) (r .at) (view s items)) (sequentOf T items s) (stands (r .side) (r .at) (can .inside) (can .compound)))
@@ -233,8 +271,8 @@ module _ (T items : List ℕ) (s : Running) (good : Good T items s) where
         record {
           good = good;
           can = can;
-          small = next-each (ruleFor r) few (λ p. size (premiseBy T items s r p) ≤ ROOM) (each-premise (λ P. size P ≤ ROOM) (can .fits)) j p n h;
-          fewer = next-each (ruleFor r) few (λ p. 1 + c (premiseBy T items s r p) ≤ c (sequentOf T items s)) (each-premise (λ P. 1 + c P ≤ c (sequentOf T items s)) fewer) j p n h;
+          small = next-each (ruleFor r) few (λ p. size (premiseBy T items s r p) ≤ ROOM) (each-made (λ P. size P ≤ ROOM) (can .fits)) j p n h;
+          fewer = next-each (ruleFor r) few (λ p. 1 + c (premiseBy T items s r p) ≤ c (sequentOf T items s)) (each-made (λ P. 1 + c P ≤ c (sequentOf T items s)) fewer) j p n h;
         }
 
 -- ---- a premise made

@@ -1,4 +1,4 @@
--- The letters of a side as bits.
+-- The letters and the compounds of a side as bits.
 -- Assumes nothing.
 use mathlib.Core.Path.{_≡_, refl, sym, ap, _∙_}
 use mathlib.Core.Option.{some}
@@ -22,17 +22,17 @@ use Rattle.sequent.specs.Rule.{partsOn, placed}
 use Rattle.sequent.proofs.Masks.{OR, fold-splice}
 use Rattle.sequent.proofs.Lists.{on-left, on-right}
 use Rattle.sequent.specs.declared.Running.{Running}
-use Rattle.sequent.specs.View.{view, maskOf, bitOf, lettersOf, Masked, Lettered}
+use Rattle.sequent.specs.View.{view, maskOf, setOf, bitsBy, bitOf, lettersOf, compoundsOf, Masked, Joined}
 
 pub shifted : (w k : ℕ) → k < w → 1 * 2 ^ k % 2 ^ w ≡ 2 ^ k
 shifted w k h = rw (one-mul (2 ^ k)) (mod-eq-of-lt (pow-lt h))
 
-pub letters-fold : (xs : List ℕ) → lettersOf xs ≡ fold OR bitOf xs
-letters-fold [] = refl
-letters-fold (x ∷ xs) = ap (bitOr (bitOf x)) (letters-fold xs)
+pub bits-fold : (β : ℕ → ℕ) (xs : List ℕ) → bitsBy β xs ≡ fold OR β xs
+bits-fold β [] = refl
+bits-fold β (x ∷ xs) = ap (bitOr (β x)) (bits-fold β xs)
 
-pub letters-append : (xs ys : List ℕ) → lettersOf (xs ++ ys) ≡ bitOr (lettersOf xs) (lettersOf ys)
-letters-append xs ys = letters-fold (xs ++ ys) ∙ fold-append OR bitOf xs ys ∙ rw (letters-fold xs, letters-fold ys)
+pub bits-append : (β : ℕ → ℕ) (xs ys : List ℕ) → bitsBy β (xs ++ ys) ≡ bitOr (bitsBy β xs) (bitsBy β ys)
+bits-append β xs ys = bits-fold β (xs ++ ys) ∙ fold-append OR β xs ys ∙ rw (bits-fold β xs, bits-fold β ys)
 
 -- a compound makes way
 at-place : (xs : List ℕ) (i : ℕ) → i < length xs → getElem? xs i ≡ some (getD xs i 0)
@@ -42,22 +42,31 @@ at-place (x ∷ xs) (suc i) h = at-place xs i (omega arith)
 
 letters-splice : (xs new : List ℕ) (i : ℕ) → i < length xs → LETTERS ≤ getD xs i 0 → lettersOf (splice i new xs) ≡ bitOr (lettersOf xs) (lettersOf new)
 letters-splice xs new i h k =
-    letters-fold (splice i new xs) ∙ fold-splice OR bitOf xs i (getD xs i 0) new (at-place xs i h) (rw (le-ltb (getD xs i 0) LETTERS k)) ∙ rw (letters-fold xs, letters-fold new)
+    bits-fold bitOf (splice i new xs) ∙ fold-splice OR bitOf xs i (getD xs i 0) new (at-place xs i h) (rw (le-ltb (getD xs i 0) LETTERS k)) ∙ rw (bits-fold bitOf xs, bits-fold bitOf new)
 
-pub lettered-made : (s : Running) (p : Placing) (f g a b : ℕ) → a ≡ lettersOf (partsOn Left p f g) → b ≡ lettersOf (partsOn Right p f g)
-    → Lettered p f g s (record { lefts = s .lefts; rights = s .rights; leftmask = bitOr (s .leftmask) a; rightmask = bitOr (s .rightmask) b })
-lettered-made s p f g a b h k = record { lefts = refl; rights = refl; masks = masks }
+-- the letters and the compounds of parts join those of their sides
+abbrev with-bits : Running → ℕ → ℕ → ℕ → ℕ → Running
+with-bits s a b x y =
+    record { lefts = s .lefts; rights = s .rights; leftmask = bitOr (s .leftmask) a; rightmask = bitOr (s .rightmask) b; leftset = bitOr (s .leftset) x; rightset = bitOr (s .rightset) y }
+
+pub joined-made : (s : Running) (p : Placing) (f g a b x y : ℕ) → a ≡ lettersOf (partsOn Left p f g) → b ≡ lettersOf (partsOn Right p f g)
+    → x ≡ compoundsOf (partsOn Left p f g) → y ≡ compoundsOf (partsOn Right p f g) → Joined p f g s (with-bits s a b x y)
+joined-made s p f g a b x y h k l m = record { lefts = refl; rights = refl; masks = masks; sets = sets }
   where
-    masks : (t : Side) → maskOf t (record { lefts = s .lefts; rights = s .rights; leftmask = bitOr (s .leftmask) a; rightmask = bitOr (s .rightmask) b }) ≡ bitOr (maskOf t s) (lettersOf (partsOn t p f g))
+    masks : (t : Side) → maskOf t (with-bits s a b x y) ≡ bitOr (maskOf t s) (lettersOf (partsOn t p f g))
     masks Left = ap (bitOr (s .leftmask)) h
     masks Right = ap (bitOr (s .rightmask)) k
+
+    sets : (t : Side) → setOf t (with-bits s a b x y) ≡ bitOr (setOf t s) (compoundsOf (partsOn t p f g))
+    sets Left = ap (bitOr (s .leftset)) l
+    sets Right = ap (bitOr (s .rightset)) m
 
 -- a premise's masks are its letters
 premise-letters : (t : Side) (i : ℕ) (S : Seq ℕ) (p : Placing) (f g : ℕ) → i < length (on-side t S) → LETTERS ≤ getD (on-side t S) i 0
     → (u : Side) → lettersOf (on-side u (premise t i S (placed p f g))) ≡ bitOr (lettersOf (on-side u S)) (lettersOf (partsOn u p f g))
 premise-letters Left i S p f g h k Left = rw (on-left (partsOn Left p f g) (partsOn Right p f g)) (letters-splice (S .on-left) (partsOn Left p f g) i h k)
-premise-letters Left i S p f g h k Right = rw (on-right (partsOn Left p f g) (partsOn Right p f g)) (letters-append (S .on-right) (partsOn Right p f g))
-premise-letters Right i S p f g h k Left = rw (on-left (partsOn Left p f g) (partsOn Right p f g)) (letters-append (S .on-left) (partsOn Left p f g))
+premise-letters Left i S p f g h k Right = rw (on-right (partsOn Left p f g) (partsOn Right p f g)) (bits-append bitOf (S .on-right) (partsOn Right p f g))
+premise-letters Right i S p f g h k Left = rw (on-left (partsOn Left p f g) (partsOn Right p f g)) (bits-append bitOf (S .on-left) (partsOn Left p f g))
 premise-letters Right i S p f g h k Right = rw (on-right (partsOn Left p f g) (partsOn Right p f g)) (letters-splice (S .on-right) (partsOn Right p f g) i h k)
 
 pub masked-premise : (s r : Running) (old new : List ℕ) (t : Side) (i : ℕ) (p : Placing) (f g : ℕ) → Masked s old

@@ -10,5 +10,6 @@ pub mod Premises
 pub mod Rules
 pub mod Firsts
 pub mod Restarts
-pub mod Pushes
+pub mod Sets
+pub mod Twins
 pub mod Goods

@@ -2,7 +2,7 @@
 -- Assumes nothing.
 use mathlib.Core.Path.{_≡_, refl, ap}
 use mathlib.Core.Bool.{Bool, true, false}
-use mathlib.Core.Option.{some}
+use mathlib.Core.Option.{some, Option·none-ne-some}
 use mathlib.Core.List.{List, [], _∷_, _++_, map, map-append}
 use Prim.Native.Nat.{ℕ, zero, suc, _+_, _≤_, _<_}
 use native.Mathlib.Omega.{arith}
@@ -11,10 +11,11 @@ use lib.ListN.{length, take, drop, getD, getElem?, length-append, length-take, l
 use Rattle.calculus.specs.declared.Side.{Side}
 use Rattle.calculus.specs.declared.Side.the-variants.{Left, Right}
 use Rattle.calculus.specs.Fold.{fold, SUM, Each}
-use Rattle.calculus.specs.Table.{L, R, on, splice}
+use Rattle.calculus.specs.Syntax.{Seq, on-side}
+use Rattle.calculus.specs.Table.{L, R, on, splice, premise}
 use Rattle.calculus.proofs.Folds.{each-append}
 use Rattle.sequent.specs.declared.Placing.{Placing}
-use Rattle.sequent.specs.Rule.{sideCode, keep, partsOn, countOne}
+use Rattle.sequent.specs.Rule.{sideCode, keep, partsOn, placed, countOne}
 
 pub on-left : {X : Type 0} (xs ys : List X) → on Left (map (λ z. L z) xs ++ map (λ z. R z) ys) ≡ xs
 on-left {X} (x ∷ xs) ys = ap (λ (l : List X). x ∷ l) (on-left xs ys)
@@ -30,6 +31,11 @@ pub element : {X Y : Type 0} (f : X → Y) (xs : List X) (i : ℕ) (d : X) → i
 element f [] i d h = absurd (omega arith)
 element f (x ∷ xs) zero d h = refl
 element f (x ∷ xs) (suc i) d h = element f xs i d (omega arith)
+
+pub element-is : {X Y : Type 0} (f : X → Y) (xs : List X) (i : ℕ) (d : X) (y : Y) → getElem? (map f xs) i ≡ some y → (i < length xs) × (f (getD xs i d) ≡ y)
+element-is f [] i d y h = absurd (Option·none-ne-some y h)
+element-is f (x ∷ xs) zero d y h = (omega arith, cc h)
+element-is f (x ∷ xs) (suc i) d y h = let r = element-is f xs i d y h in (omega (arith, r .0), r .1)
 
 pub map-splice : {X Y : Type 0} (f : X → Y) (i : ℕ) (new xs : List X) → map f (splice i new xs) ≡ splice i (map f new) (map f xs)
 map-splice f zero new [] = map-append f new []
@@ -81,3 +87,11 @@ each-at Q (x ∷ xs) (suc i) d h k = each-at Q xs i d (h .1) (omega arith)
 pub each-unmap : {X Y : Type 0} (f : X → Y) (Q : Y → Type 0) (xs : List X) → Each Q (map f xs) → Each (λ x. Q (f x)) xs
 each-unmap f Q [] h = tt
 each-unmap f Q (x ∷ xs) h = (h .0, each-unmap f Q xs (h .1))
+
+-- of the names of a premise, on each side
+pub each-premise : (Q : ℕ → Type 0) (v u : Side) (i : ℕ) (N : Seq ℕ) (p : Placing) (f g : ℕ) → Each Q (partsOn u p f g) → Each Q (on-side u N)
+    → Each Q (on-side u (premise v i N (placed p f g)))
+each-premise Q Left Left i N p f g h k = rw (on-left (partsOn Left p f g) (partsOn Right p f g)) (each-splice Q i (partsOn Left p f g) (N .on-left) h k)
+each-premise Q Left Right i N p f g h k = rw (on-right (partsOn Left p f g) (partsOn Right p f g)) (each-append Q (N .on-right) (partsOn Right p f g) k h)
+each-premise Q Right Left i N p f g h k = rw (on-left (partsOn Left p f g) (partsOn Right p f g)) (each-append Q (N .on-left) (partsOn Left p f g) k h)
+each-premise Q Right Right i N p f g h k = rw (on-right (partsOn Left p f g) (partsOn Right p f g)) (each-splice Q i (partsOn Right p f g) (N .on-right) h k)

@@ -1,19 +1,22 @@
--- The first compound of a running sequent, and how a compound reduces.
+-- The first compound of a running sequent, compounds on both sides, and how a compound reduces.
 use mathlib.Core.Path.{_≡_}
 use mathlib.Core.List.{List, [], _∷_}
 use Prim.Native.Nat.{ℕ, suc, _+_, _%_, _≤_, _<_}
 use lib.Dec.{ltb}
-use lib.ListN.{length, take}
+use lib.ListN.{length, take, getD}
 use Rattle.calculus.specs.declared.Side.{Side}
 use Rattle.calculus.specs.declared.Side.the-variants.{Left, Right}
 use Rattle.calculus.specs.Fold.{Each, choose}
 use Rattle.calculus.specs.Limits.{LETTERS, ROOM}
 use Rattle.calculus.specs.Syntax.{NOT, two, Formula, letter, neg, join, Compound, whole, Seq, Sequent, c, size}
 use Rattle.calculus.specs.Table.{premise, premises}
+use Rattle.calculus.specs.Tree.{Twins, unlike, alike}
 use Rattle.sequent.specs.declared.Placing.{Placing}
 use Rattle.sequent.specs.declared.Rule.{Rule}
 use Rattle.sequent.specs.declared.Running.{Running}
 use Rattle.sequent.specs.declared.Reduction.{Reduction}
+use Rattle.sequent.specs.declared.Pair.{Pair}
+use Rattle.sequent.specs.declared.Pair.the-variants.{Both, Neither}
 use Rattle.sequent.specs.declared.Place.{Place}
 use Rattle.sequent.specs.declared.Place.the-variants.{At, Nowhere}
 use Rattle.sequent.specs.Names.{formulaIn, nodeOf, connectiveOf, firstOf, secondOf}
@@ -37,6 +40,32 @@ abbrev pub Found : Seq ℕ → Place → Type 0
 Found N (At Left i) = (i ≡ firstIn (N .on-left)) × (i < length (N .on-left))
 Found N (At Right i) = (firstIn (N .on-left) ≡ length (N .on-left)) × (i ≡ firstIn (N .on-right)) × (i < length (N .on-right))
 Found N Nowhere = (firstIn (N .on-left) ≡ length (N .on-left)) × (firstIn (N .on-right) ≡ length (N .on-right))
+
+-- ---- equal compounds
+
+-- the first place of a name from `from` on and before n, or n
+pub record Stands (items : List ℕ) (from n d r : ℕ) : Type 0 where
+  pub after : from ≤ r
+  pub inside : r ≤ n
+  pub here : r < n → getD items r 0 ≡ d
+  pub first : (k : ℕ) → from ≤ k → k < r → getD items k 0 ≡ d → ⊥
+
+-- a compound stands at this left place and at this right place
+pub record EqualAt (N : Seq ℕ) (i j : ℕ) : Type 0 where
+  pub left : i < length (N .on-left)
+  pub right : j < length (N .on-right)
+  pub compound : LETTERS ≤ nameAt Left i N
+  pub equal : nameAt Left i N ≡ nameAt Right j N
+
+-- "the lowest left place that has an equal on the right, with the lowest such right place"
+abbrev pub Paired : Seq ℕ → Pair → Type 0
+Paired N (Both i j) = EqualAt N i j × ((m n : ℕ) → EqualAt N m n → (i ≤ m) × (m ≡ i → j ≤ n))
+Paired N Neither = (m n : ℕ) → EqualAt N m n → ⊥
+
+-- document 02's pair
+abbrev pub twinsOf : Pair → Twins
+twinsOf (Both i j) = alike i j
+twinsOf Neither = unlike
 
 -- ---- a compound taken apart
 

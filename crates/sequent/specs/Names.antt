@@ -1,5 +1,5 @@
--- Formulas by name: a letter is named by itself, a compound by the number of its connective, above the letters. The connectives are
--- counted in the order of the bytes, and the node of each has its command and the names of its parts.
+-- Formulas by name: a letter is named by itself, a compound by its node, above the letters. A node has the command of a connective and
+-- the names of its parts, which are lower than its own. No two nodes are equal, so equal formulas have one name.
 use mathlib.Core.Path.{_≡_}
 use mathlib.Core.List.{List}
 use Prim.Native.Nat.{ℕ, zero, suc, _+_, _-_, _*_, _/_, _%_, _≤_, _<_}
@@ -10,29 +10,38 @@ use Rattle.calculus.specs.Limits.{LETTERS}
 use Rattle.calculus.specs.Syntax.{AND, OR, IMPLIES, EQUIV, Connective, NOT, two, Formula, letter, neg, join, compound, connectives}
 use Rattle.calculus.specs.Bytes.{CONNECTIVE, code}
 
--- the name of a formula whose connectives are counted from n
-abbrev pub name : ℕ → Formula → ℕ
-name n (letter k) = k
-name n (neg x) = LETTERS + n
-name n (join b x y) = LETTERS + n
-
 -- a connective's command and the names of its parts; NOT has its one part for both
 abbrev pub node : ℕ → ℕ → ℕ → ℕ
 node b f g = b + 256 * f + 65536 * g
 
--- the nodes tell a formula whose connectives are counted from n
-abbrev pub Told : List ℕ → ℕ → Formula → Type 0
-Told T n (letter k) = k < LETTERS
-Told T n (neg x) = (getD T n 0 ≡ node (code (CONNECTIVE NOT)) (name (n + 1) x) (name (n + 1) x)) × Told T (n + 1) x
-Told T n (join b x y) =
-    (getD T n 0 ≡ node (code (CONNECTIVE (two b))) (name (n + 1) x) (name (n + 1 + connectives x) y))
-    × Told T (n + 1) x × Told T (n + 1 + connectives x) y
-
--- ---- the formula of a name
-
 -- the node of a compound's name
 abbrev pub nodeOf : List ℕ → ℕ → ℕ
 nodeOf T d = getD T (d - LETTERS) 0
+
+-- a compound's name, its node and the names of its parts
+pub record Node (T : List ℕ) (d b f g : ℕ) : Type 0 where
+  pub above : LETTERS ≤ d
+  pub held : nodeOf T d ≡ node b f g
+  pub first : f < d
+  pub second : g < d
+
+-- the nodes tell that a name stands for a formula
+abbrev pub Tells : List ℕ → ℕ → Formula → Type 0
+Tells T d (letter k) = (d ≡ k) × (k < LETTERS)
+Tells T d (neg x) = (f : ℕ) × Node T d (code (CONNECTIVE NOT)) f f × Tells T f x
+Tells T d (join b x y) = (f : ℕ) × (g : ℕ) × Node T d (code (CONNECTIVE (two b))) f g × Tells T f x × Tells T g y
+
+-- the first n nodes tell what a name stands for
+pub record Known (T : List ℕ) (n d : ℕ) : Type 0 where
+  pub formula : Formula
+  pub tells : Tells T d formula
+  pub below : d < LETTERS + n
+
+-- no two of the first n nodes are equal
+abbrev pub Distinct : List ℕ → ℕ → Type 0
+Distinct T n = (i j : ℕ) → i < n → j < n → getD T i 0 ≡ getD T j 0 → i ≡ j
+
+-- ---- the formula of a name
 
 -- a node read: the connective, and the names of its parts
 abbrev pub connectiveOf : ℕ → Connective
@@ -53,11 +62,3 @@ formulaBy (suc n) T d =
 -- the formula that a name stands for
 abbrev pub formulaIn : List ℕ → ℕ → Formula
 formulaIn T d = formulaBy (length T) T d
-
--- the nodes tell the formula of a name
-pub record Known (T : List ℕ) (d : ℕ) : Type 0 where
-  pub number : ℕ
-  pub formula : Formula
-  pub named : d ≡ name number formula
-  pub told : Told T number formula
-  pub inside : number + connectives formula ≤ length T

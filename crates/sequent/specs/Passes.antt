@@ -13,7 +13,7 @@ use Rattle.sequent.specs.declared.Pass.{Pass}
 use Rattle.sequent.specs.declared.Running.{Running}
 use Rattle.sequent.specs.declared.Built.{Built}
 use Rattle.sequent.specs.Rule.{partsOn, placed}
-use Rattle.sequent.specs.View.{view, maskOf, lettersOf}
+use Rattle.sequent.specs.View.{view, maskOf, setOf, lettersOf, compoundsOf}
 
 -- room for n places more
 pub record Fits (a : Pass) (n : ℕ) (new : List ℕ) : Type 0 where
@@ -45,3 +45,4 @@ pub record Builds (t : Side) (at : ℕ) (p : Placing) (f g : ℕ) (s : Running) 
   pub counted : b .running .lefts + b .running .rights ≡ b .stores
   pub full : length new ≡ ROOM
   pub masks : (u : Side) → maskOf u (b .running) ≡ bitOr (maskOf u s) (lettersOf (partsOn u p f g))
+  pub sets : (u : Side) → setOf u (b .running) ≡ bitOr (setOf u s) (compoundsOf (partsOn u p f g))

@@ -1,7 +1,8 @@
 -- What a running sequent stands for.
 use mathlib.Core.Path.{_≡_}
-use mathlib.Core.List.{List, [], _∷_, _++_, map}
-use Prim.Native.Nat.{ℕ, _+_, _^_, _≤_}
+use mathlib.Core.Bool.{true}
+use mathlib.Core.List.{List, [], _∷_, map}
+use Prim.Native.Nat.{ℕ, _+_, _%_, _^_, _≤_}
 use lib.Bits.{bitOr}
 use lib.Dec.{ltb}
 use lib.ListN.{length, take, drop, getD}
@@ -9,10 +10,11 @@ use Rattle.calculus.specs.declared.Side.{Side}
 use Rattle.calculus.specs.declared.Side.the-variants.{Left, Right}
 use Rattle.calculus.specs.Fold.{Each, choose}
 use Rattle.calculus.specs.Limits.{ROOM, LETTERS, CONNECTIVES}
-use Rattle.calculus.specs.Syntax.{other, Seq, Sequent, on-side}
+use Rattle.calculus.specs.Syntax.{Seq, Sequent, on-side}
+use Rattle.calculus.specs.Truth.{bit}
 use Rattle.sequent.specs.declared.Placing.{Placing}
 use Rattle.sequent.specs.declared.Running.{Running}
-use Rattle.sequent.specs.Names.{formulaIn, Known}
+use Rattle.sequent.specs.Names.{formulaIn, Known, Distinct}
 use Rattle.sequent.specs.Rule.{partsOn}
 
 -- ---- names in places
@@ -28,6 +30,10 @@ countOf Right s = s .rights
 abbrev pub maskOf : Side → Running → ℕ
 maskOf Left s = s .leftmask
 maskOf Right s = s .rightmask
+
+abbrev pub setOf : Side → Running → ℕ
+setOf Left s = s .leftset
+setOf Right s = s .rightset
 
 -- where the name at a place of a side stands in the list
 abbrev pub slotOf : Side → ℕ → Running → ℕ
@@ -58,43 +64,56 @@ sequentOf T items s = named (formulaIn T) (view s items)
 
 -- ---- letters
 
+-- the bits of names together
+abbrev pub bitsBy : (ℕ → ℕ) → List ℕ → ℕ
+bitsBy β [] = 0
+bitsBy β (x ∷ xs) = bitOr (β x) (bitsBy β xs)
+
 -- a letter's bit; none for a compound
 abbrev pub bitOf : ℕ → ℕ
 bitOf x = choose (ltb x LETTERS) (2 ^ x) 0
 
 abbrev pub lettersOf : List ℕ → ℕ
-lettersOf [] = 0
-lettersOf (x ∷ xs) = bitOr (bitOf x) (lettersOf xs)
+lettersOf = bitsBy bitOf
 
 -- each side's mask is its letters
 abbrev pub Masked : Running → List ℕ → Type 0
 Masked s items = (t : Side) → maskOf t s ≡ lettersOf (on-side t (view s items))
 
--- the same places, and the letters of a premise's parts
-pub record Lettered (p : Placing) (f g : ℕ) (s r : Running) : Type 0 where
+-- ---- compounds
+
+-- a compound's bit; none for a letter
+abbrev pub compoundBit : ℕ → ℕ
+compoundBit x = choose (ltb x LETTERS) 0 (2 ^ (x % 64))
+
+abbrev pub compoundsOf : List ℕ → ℕ
+compoundsOf = bitsBy compoundBit
+
+-- a compound's bit is in a set
+abbrev pub Member : ℕ → ℕ → Type 0
+Member a x = LETTERS ≤ x → bit (x % 64) a ≡ true
+
+-- each side's set holds its compounds, and maybe more
+abbrev pub Covered : Running → List ℕ → Type 0
+Covered s items = (t : Side) → Each (Member (setOf t s)) (on-side t (view s items))
+
+-- the same places, and the letters and compounds of a premise's parts
+pub record Joined (p : Placing) (f g : ℕ) (s r : Running) : Type 0 where
   pub lefts : r .lefts ≡ s .lefts
   pub rights : r .rights ≡ s .rights
   pub masks : (t : Side) → maskOf t r ≡ bitOr (maskOf t s) (lettersOf (partsOn t p f g))
+  pub sets : (t : Side) → setOf t r ≡ bitOr (setOf t s) (compoundsOf (partsOn t p f g))
 
 -- ---- what holds of one that a run or a check meets
 
+-- used: how many nodes are in use
 pub record Good (T items : List ℕ) (s : Running) : Type 0 where
   pub nodes : length T ≡ CONNECTIVES
   pub places : length items ≡ ROOM
   pub room : s .lefts + s .rights ≤ ROOM
-  pub known : (t : Side) → Each (Known T) (on-side t (view s items))
+  pub used : ℕ
+  pub few : used ≤ CONNECTIVES
+  pub distinct : Distinct T used
+  pub known : (t : Side) → Each (Known T used) (on-side t (view s items))
   pub masks : Masked s items
-
--- ---- a formula more
-
-abbrev pub entered : {X : Type 0} → Side → X → Seq X → Seq X
-entered Left x S = record { on-left = S .on-left ++ (x ∷ []); on-right = S .on-right }
-entered Right x S = record { on-left = S .on-left; on-right = S .on-right ++ (x ∷ []) }
-
--- a name at the end of a side
-pub record Pushed (t : Side) (d : ℕ) (s : Running) (old new : List ℕ) (r : Running) : Type 0 where
-  pub held : view r new ≡ entered t d (view s old)
-  pub counted : r .lefts + r .rights ≡ s .lefts + s .rights + 1
-  pub places : length new ≡ length old
-  pub mask : maskOf t r ≡ bitOr (maskOf t s) (bitOf d)
-  pub aside : maskOf (other t) r ≡ maskOf (other t) s
+  pub sets : Covered s items

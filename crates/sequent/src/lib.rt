@@ -14,17 +14,20 @@ ghost use Rattle.calculus.specs.Bytes.{CONNECTIVE, code};
 ghost use Rattle.calculus.specs.Table.{premise};
 ghost use Rattle.sequent.specs.Names.{firstOf, secondOf};
 ghost use Rattle.sequent.specs.Rule.{sideCode, ruleOf, keep, partsOn, placed, premiseOf, countOne};
-ghost use Rattle.sequent.specs.View.{view, countOf, slotOf, endOf, startOf, lettersOf, Lettered, Good, nameAt, Pushed};
+ghost use Rattle.sequent.specs.View.{view, countOf, slotOf, endOf, startOf, bitOf, lettersOf, compoundBit, compoundsOf, Covered, Joined, Good, nameAt};
 ghost use Rattle.sequent.specs.Passes.{Fits, Stored, Builds};
-ghost use Rattle.sequent.specs.Compounds.{firstIn, Clear, Found, ruleFor, reductionAt};
+ghost use Rattle.sequent.specs.Compounds.{firstIn, Clear, Found, Stands, Paired, ruleFor, reductionAt};
 
-// How many formulas stand on each side, and the letters of each side, a bit each. The names of the formulas, the left side's
-// and then the right side's, are lent beside it: a letter is named by itself, a compound by its node, above the letters.
+// How many formulas stand on each side, the letters of each side, a bit each, and a set that holds the compounds of each side: it
+// only grows, so it holds reduced ones too. The names of the formulas, the left side's and then the right side's, are lent beside
+// it: a letter is named by itself, a compound by its node, above the letters, and equal formulas have one name.
 pub struct Running {
     pub lefts: usize,
     pub rights: usize,
     pub leftmask: u32,
     pub rightmask: u32,
+    pub leftset: u64,
+    pub rightset: u64,
 }
 
 // Where the two parts of a formula go in a premise: 0 nowhere, 1 left, 2 right.
@@ -50,6 +53,12 @@ pub struct Reduction {
 pub enum Place {
     At(Side, usize),
     Nowhere,
+}
+
+// A left place and a right place.
+pub enum Pair {
+    Both(usize, usize),
+    Neither,
 }
 
 // A premise in the making: the next place of the old list, the next place of the new one, and the stores so far.
@@ -231,14 +240,32 @@ impl Pass {
 
 // ---- the letters of a premise's parts
 
+// The bit of a letter; none for a compound.
+pub fn letter_bit(name: u8) -> u32
+    ensures { λ r. ⌜ r ≡ bitOf name ⌝ }
+{
+    if name < LETTERS {
+        return 1u32 << name;
+    }
+    0
+}
+
+// The bit of a compound; none for a letter.
+pub fn compound_bit(name: u8) -> u64
+    ensures { λ r. ⌜ r ≡ compoundBit name ⌝ }
+{
+    if name < LETTERS {
+        return 0;
+    }
+    1u64 << (name % 64)
+}
+
 // The bit of a letter, where it is wanted.
 fn mark(wanted: bool, name: u8) -> u32
     ensures { λ r. ⌜ r ≡ lettersOf (keep wanted name) ⌝ }
 {
     if wanted {
-        if name < LETTERS {
-            return 1u32 << name;
-        }
+        return letter_bit(name);
     }
     0
 }
@@ -249,6 +276,24 @@ fn marks(side: Side, p: Placing, f: u8, g: u8) -> u32
 {
     let s = side_code(side);
     mark(p.f == s, f) | mark(p.g == s, g)
+}
+
+// The bit of a compound, where it is wanted.
+fn member(wanted: bool, name: u8) -> u64
+    ensures { λ r. ⌜ r ≡ compoundsOf (keep wanted name) ⌝ }
+{
+    if wanted {
+        return compound_bit(name);
+    }
+    0
+}
+
+// The compounds among the parts that a premise puts on a side.
+fn members(side: Side, p: Placing, f: u8, g: u8) -> u64
+    ensures { λ r. ⌜ r ≡ compoundsOf (partsOn side p f g) ⌝ }
+{
+    let s = side_code(side);
+    member(p.f == s, f) | member(p.g == s, g)
 }
 
 // ---- the running sequent
@@ -355,12 +400,14 @@ impl Running {
         a.copy(old, new, k).parts(new, side, p, f, g)
     }
 
-    // The letters of a premise's parts join those of their sides.
-    fn lettered(mut self, p: Placing, f: u8, g: u8) -> Running
-        ensures { λ r. ⌜ Lettered p f g self r ⌝ }
+    // The letters and the compounds among a premise's parts join those of their sides.
+    fn joined(mut self, p: Placing, f: u8, g: u8) -> Running
+        ensures { λ r. ⌜ Joined p f g self r ⌝ }
     {
         self.leftmask = self.leftmask | marks(Side::Left, p, f, g);
         self.rightmask = self.rightmask | marks(Side::Right, p, f, g);
+        self.leftset = self.leftset | members(Side::Left, p, f, g);
+        self.rightset = self.rightset | members(Side::Right, p, f, g);
         self
     }
 }
@@ -385,7 +432,7 @@ impl Running {
             × (size (premise side at (view self (now old)) (placed p f g)) ≤ ROOM) ⌝ }
         ensures { λ r. ⌜ Builds side at p f g self (now (old .entry)) (now (new .entry)) (now (new .exit)) r ⌝ }
     {
-        let s = self.lettered(p, f, g);
+        let s = self.joined(p, f, g);
         let n = self.lefts + self.rights;
         let start = Pass {
             from: 0,
@@ -404,6 +451,8 @@ impl Running {
                         rights: e.to - k,
                         leftmask: s.leftmask,
                         rightmask: s.rightmask,
+                        leftset: s.leftset,
+                        rightset: s.rightset,
                     },
                     stores: e.stores,
                 }
@@ -419,6 +468,8 @@ impl Running {
                         rights: e.to - k,
                         leftmask: s.leftmask,
                         rightmask: s.rightmask,
+                        leftset: s.leftset,
+                        rightset: s.rightset,
                     },
                     stores: e.stores,
                 }
@@ -512,27 +563,50 @@ impl Running {
     }
 }
 
+// The first place of a name from one place on, or n.
+fn place_of(items: &[u8; 80], from: usize, n: usize, name: u8) -> usize
+    requires { ⌜ (from ≤ n) × (n ≤ ROOM) × (length (now items) ≡ ROOM) ⌝ }
+    ensures { λ r. ⌜ Stands (now (items .entry)) from n name r ⌝ }
+{
+    let mut i = from;
+    while i < n {
+        if items[i] == name {
+            return i;
+        }
+        i += 1;
+    }
+    n
+}
+
 impl Running {
-    // A formula that a question starts with, at the end of a side: the left side is filled first.
-    pub fn push(mut self, items: &mut [u8; 80], side: Side, name: u8) -> Running
-        requires { ⌜
-            (self .lefts + self .rights < ROOM) × (length (now items) ≡ ROOM) × (side ≡ Side.Left → self .rights ≡ 0) ⌝ }
-        ensures { λ r. ⌜ Pushed side name self (now (items .entry)) (now (items .exit)) r ⌝ }
+    // The lowest left place of a compound that stands on the right too, with its lowest right place.
+    fn search(self, items: &[u8; 80]) -> Pair
+        requires { ⌜ (self .lefts + self .rights ≤ ROOM) × (length (now items) ≡ ROOM) ⌝ }
+        ensures { λ r. ⌜ Paired (view self (now (items .entry))) r ⌝ }
     {
         let n = self.lefts + self.rights;
-        items[n] = name;
-        let bit = mark(true, name);
-        match side {
-            Side::Left => {
-                self.lefts = self.lefts + 1;
-                self.leftmask = self.leftmask | bit;
-                return self;
+        let mut i = 0;
+        while i < self.lefts {
+            let x = items[i];
+            if LETTERS <= x {
+                let j = place_of(items, self.lefts, n, x);
+                if j < n {
+                    return Pair::Both(i, j - self.lefts);
+                }
             }
-            Side::Right => {
-                self.rights = self.rights + 1;
-                self.rightmask = self.rightmask | bit;
-                return self;
-            }
+            i += 1;
         }
+        Pair::Neither
+    }
+
+    // The same: where the sets do not meet, no compound stands on both sides.
+    pub fn twins(self, items: &[u8; 80]) -> Pair
+        requires { ⌜ (self .lefts + self .rights ≤ ROOM) × (length (now items) ≡ ROOM) × Covered self (now items) ⌝ }
+        ensures { λ r. ⌜ Paired (view self (now (items .entry))) r ⌝ }
+    {
+        if self.leftset & self.rightset == 0 {
+            return Pair::Neither;
+        }
+        self.search(items)
     }
 }

@@ -53,6 +53,16 @@ fn put(buffer: &mut [u8], at: usize, command: u8, operand: u8) -> usize
     at + 2
 }
 
+// 42 and its two operands; answers the place behind them.
+fn put_pair(buffer: &mut [u8], at: usize, left: u8, right: u8) -> usize
+    requires { ⌜ at + 3 ≤ length (now buffer) ⌝ }
+    ensures { λ r. ⌜ (r ≡ at + 3) × (now (buffer .exit) ≡ sets (now (buffer .entry)) at (orderCode PAIR ∷ left ∷ right ∷ [])) ⌝ }
+{
+    let end = put(buffer, at, 0x42, left);
+    buffer[end] = right;
+    end + 1
+}
+
 // The command that reduces a connective, whose byte is b, on a side.
 fn command_of(side: Side, b: u8) -> u8
     requires { ⌜ b ≤ 6 ⌝ }
@@ -86,6 +96,7 @@ fn emit(
     let due = prover::step(nodes, items, s, from, 1);
     match due {
         Finding::Closed(k) => put(buffer, at, 0x41, k as u8),
+        Finding::Paired(i, j) => put_pair(buffer, at, i as u8, j as u8),
         Finding::Reduce(r) => {
             let side = r.side;
             let i = put(buffer, at, command_of(side, r.command()), r.at as u8);
@@ -173,11 +184,10 @@ fn emit_premises(
 }
 
 // The derivation of a theorem, if the buffer holds it.
-fn write_out(q: &[u8], v: Verdict, buffer: &mut [u8]) -> Writing
+fn write_out(q: &[u8], v: Verdict, needed: u64, buffer: &mut [u8]) -> Writing
     requires { ⌜ (reading (now q) ≡ accepted) × IsTheorem (question (now q)) v ⌝ }
     ensures { λ r. ⌜ WrittenOut (question (now (q .entry))) v (now (buffer .entry)) (now (buffer .exit)) r ⌝ }
 {
-    let needed = 2 * (v.reductions + v.closings);
     if (buffer.len() as u64) < needed {
         return Writing::NoSpace(needed);
     }
@@ -199,10 +209,16 @@ pub fn derive(q: &[u8], budget: u64, buffer: &mut [u8]) -> Writing
     let reading = question::read(q);
     match reading {
         Reading::Accepted => {
-            let v = prover::verdict_of(q, budget);
+            let o = prover::outcome_of(q, budget);
+            let v = prover::verdict_of(o, budget);
             let kind = v.kind;
             match kind {
-                Kind::Theorem => write_out(q, v, buffer),
+                Kind::Theorem => write_out(
+                    q,
+                    v,
+                    2 * (v.reductions + v.closings) + o.pairings,
+                    buffer,
+                ),
                 _ => Writing::NotProved(v),
             }
         }

@@ -2,7 +2,8 @@ use mathlib.Core.Path.{sym}
 use lib.Dec.{eqb}
 use borrow.Author.Needs.{needs}
 use Rattle.sequent.specs.Rule.{sideCode, keep}
-use Rattle.sequent.proofs.Letters.{letters-append}
+use Rattle.sequent.specs.View.{bitOf}
+use Rattle.sequent.proofs.Letters.{bits-append}
 use Rattle.sequent.proofs.marks.Statement.{statement}
 use Rattle.sequent.proofs.marks.Tie as tie
 
@@ -15,4 +16,4 @@ marks-spec =
     (λ c κs. search needs)
     (λ c.
     let a = c .before .before .before .before .before .args in
-    rw (c .mark2 .ensures, c .before .before .mark .ensures, c .before .before .before .before .side-code .ensures .0) (sym (letters-append (keep (eqb (a .p .f) (sideCode (a .side))) (a .f)) (keep (eqb (a .p .g) (sideCode (a .side))) (a .g))))))
+    rw (c .mark2 .ensures, c .before .before .mark .ensures, c .before .before .before .before .side-code .ensures .0) (sym (bits-append bitOf (keep (eqb (a .p .f) (sideCode (a .side))) (a .f)) (keep (eqb (a .p .g) (sideCode (a .side))) (a .g))))))

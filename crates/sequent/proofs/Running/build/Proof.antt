@@ -70,7 +70,7 @@ returns c =
     let inside = rw told at (h .0) in
     let l = c .before .before .before .before .before .replace in
     let e = c .before .before .before .append in
-    let m = c .before .before .before .before .before .before .before .before .before .before .lettered in
+    let m = c .before .before .before .before .before .before .before .before .before .before .joined in
     rw told (premise-made (a .self) (a .old .now) (h .2) (h .1) (a .p) (a .f) (a .g) (a .at) Left inside
     (chain-at (λ (v : ℕ). slice v (a .self .lefts + a .self .rights) (a .old .now) ++ partsOn Right (a .p) (a .f) (a .g)) (l .ensures) (e .ensures))
     (l .result .to + (a .self .lefts - l .result .from))
@@ -137,7 +137,7 @@ returns-2 c =
     let told = c .before .before .before .before .before .before .before .enum-told2 .given .1 in
     let inside = rw told at (h .0) in
     let l = c .before .before .before .before .before .append2 in
-    let m = c .before .before .before .before .before .before .before .before .before .before .lettered in
+    let m = c .before .before .before .before .before .before .before .before .before .before .joined in
     rw told (premise-made (a .self) (a .old .now) (h .2) (h .1) (a .p) (a .f) (a .g) (a .at) Right inside
     (chain-at (λ (v : ℕ). slice v (a .self .lefts + a .self .rights) (a .old .now))
     (chain-at (λ (v : ℕ). slice v (a .self .lefts + a .at) (a .old .now) ++ partsOn Right (a .p) (a .f) (a .g)) (l .ensures) (c .before .before .before .replace2 .ensures)) (c .before .copy .ensures))

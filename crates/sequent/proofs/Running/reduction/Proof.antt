@@ -15,7 +15,7 @@ use Rattle.sequent.proofs.Running.reduction.Tie as tie
 abbrev at-place : tie.Start → ℕ
 at-place s = let a = s .args in nameAt (a .side) (a .at) (view (a .self) (a .items .now))
 
-compound-now : (s : tie.Start) → Compounded (s .args .nodes .now) (s .pre .0 .nodes) (at-place s)
+compound-now : (s : tie.Start) → Compounded (s .args .nodes .now) (s .pre .0 .nodes) (s .pre .0 .used) (s .pre .0 .few) (at-place s)
 compound-now s = let a = s .args in compounded (a .nodes .now) (a .items .now) (a .self) (s .pre .0) (a .side) (a .at) (s .pre .1) (s .pre .2)
 
 name-now : (c : tie.After-slot) → getD (c .before .args .items .now) (c .slot .result) 0 ≡ at-place (c .before)
