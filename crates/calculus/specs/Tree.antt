@@ -238,10 +238,11 @@ closingsBefore zero (reduce s i k ∷ es) = 0
 closingsBefore (suc b) (reduce s i k ∷ es) = closingsBefore b es
 
 -- the verdict under a budget: the kind, "and beside it the two counts"
+abbrev pub verdictOf : ℕ → Outcome → Verdict
+verdictOf b o = record { kind = o .kind; reductions = b - o .unspent; closings = o .closings }
+
 abbrev pub verdict : ℕ → Sequent → Verdict
-verdict b S =
-    let o : Outcome = outcome b S in
-    record { kind = o .kind; reductions = b - o .unspent; closings = o .closings }
+verdict b S = verdictOf b (outcome b S)
 
 -- ---- the run, step by step: reductions left go in and come out
 

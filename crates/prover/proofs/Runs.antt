@@ -13,7 +13,7 @@ use Rattle.calculus.specs.declared.Outcome.{Outcome}
 use Rattle.calculus.specs.Fold.{fold, SUM}
 use Rattle.calculus.specs.Limits.{ROOM, CONNECTIVES}
 use Rattle.calculus.specs.Syntax.{Sequent, c, size}
-use Rattle.calculus.specs.Tree.{Event, close, reduce, closings, closingsBefore, tree, outcome, andThen, pass, act}
+use Rattle.calculus.specs.Tree.{lettered, paired, Event, close, reduce, closings, closingsBefore, tree, spend, outcome, andThen, pass, act}
 use Rattle.calculus.proofs.Bounds.{closings-bound, W-bound}
 use Rattle.calculus.proofs.Budgets.{spend-closings, outcome-step}
 use Rattle.sequent.specs.declared.Placing.{Placing}
@@ -43,11 +43,22 @@ pub closings-small : (b : ℕ) (S : Sequent) → c S ≤ CONNECTIVES → outcome
 closings-small b S h =
     omega (arith, spend-closings b (tree S .events) (tree S .end), closings-before b (tree S .events), closings-bound S, W-bound S, pow-mono {j = CONNECTIVES} h)
 
+-- each closing by equal formulas is one of them
+pairings-less : (b : ℕ) (es : List Event) (e : Kind) → spend b es e .pairings ≤ spend b es e .closings
+pairings-less b [] e = omega arith
+pairings-less b (close (lettered k) ∷ es) e = omega (arith, pairings-less b es e)
+pairings-less b (close (paired i j) ∷ es) e = omega (arith, pairings-less b es e)
+pairings-less zero (reduce s i k ∷ es) e = omega arith
+pairings-less (suc b) (reduce s i k ∷ es) e = pairings-less b es e
+
+pub pairings-small : (b : ℕ) (S : Sequent) → outcome b S .pairings ≤ outcome b S .closings
+pairings-small b S = pairings-less b (tree S .events) (tree S .end)
+
 -- ---- the premises ahead
 
--- an outcome after k closings
-abbrev more : ℕ → Outcome → Outcome
-more k v = record { kind = v .kind; unspent = v .unspent; closings = k + v .closings }
+-- an outcome after k closings, m of them by equal formulas
+abbrev more : ℕ → ℕ → Outcome → Outcome
+more k m v = record { kind = v .kind; unspent = v .unspent; closings = k + v .closings; pairings = m + v .pairings }
 
 stops : (k : Kind) → (k ≡ Theorem → ⊥) → (o : Outcome) (u : ℕ → Outcome) (Ps : List Sequent) → (andThen k o u ≡ o) × (after k Ps ≡ [])
 stops Theorem n o u Ps = absurd (n refl)
@@ -55,27 +66,30 @@ stops (Refuted σ) n o u Ps = (refl, refl)
 stops Spent n o u Ps = (refl, refl)
 stops Full n o u Ps = (refl, refl)
 
--- j premises are run: o reductions are left, k sequents were closed and n places stored, and p is the next placing
-pub record Ahead (F : Placing → Sequent) (r : Rule) (b j o k n : ℕ) (p : Placing) : Type 0 where
+-- j premises are run: o reductions are left, k sequents were closed, m of them by equal formulas, n places were stored, and p is the
+-- next placing
+pub record Ahead (F : Placing → Sequent) (r : Rule) (b j o k m n : ℕ) (p : Placing) : Type 0 where
   pub next : Next r j p
-  pub outcome : pass outcome b (map F (placings r)) ≡ more k (pass outcome o (map F (drop j (placings r))))
+  pub outcome : pass outcome b (map F (placings r)) ≡ more k m (pass outcome o (map F (drop j (placings r))))
   pub stores : n + fold SUM size (made o (map F (drop j (placings r)))) ≡ fold SUM size (made b (map F (placings r)))
   pub few : k ≤ 2 ^ CONNECTIVES * j
+  pub among : m ≤ k
   pub small : n ≤ ROOM * j
 
 module _ (F : Placing → Sequent) (r : Rule) (count : OneOrTwo r) (b : ℕ) where
-  pub ahead-starts : Ahead F r b 0 b 0 0 (r .first)
+  pub ahead-starts : Ahead F r b 0 b 0 0 0 (r .first)
   ahead-starts =
       let v = pass outcome b (map F (placings r)) in
       record {
         next = next-starts r count;
-        outcome = λ i. record { kind = v .kind; unspent = v .unspent; closings = sym (zero-add (v .closings)) i };
+        outcome = λ i. record { kind = v .kind; unspent = v .unspent; closings = sym (zero-add (v .closings)) i; pairings = sym (zero-add (v .pairings)) i };
         stores = zero-add _;
         few = omega arith;
+        among = omega arith;
         small = omega arith;
       }
 
-  module _ (j o k n : ℕ) (p : Placing) (a : Ahead F r b j o k n p) (h : j < r .premises) (u : Reduced) (e : Ran o (F p) u) where
+  module _ (j o k m n : ℕ) (p : Placing) (a : Ahead F r b j o k m n p) (h : j < r .premises) (u : Reduced) (e : Ran o (F p) u) where
     abbrev rest : List Sequent
     rest = map F (drop (j + 1) (placings r))
 
@@ -87,33 +101,35 @@ module _ (F : Placing → Sequent) (r : Rule) (count : OneOrTwo r) (b : ℕ) whe
         ap (λ (ps : List Placing). made o (map F ps)) (a .next .next h)
         ∙ ap (λ (v : Outcome). F p ∷ after (v .kind) (made (v .unspent) rest)) (sym (e .outcome))
 
-    pub ahead-goes : u .kind ≡ Theorem → u .closings ≤ 2 ^ CONNECTIVES → size (F p) ≤ ROOM → Ahead F r b (j + 1) (u .unspent) (k + u .closings) (n + u .stores) (r .second)
-    ahead-goes t f g =
+    pub ahead-goes : u .kind ≡ Theorem → u .closings ≤ 2 ^ CONNECTIVES → u .pairings ≤ u .closings → size (F p) ≤ ROOM
+        → Ahead F r b (j + 1) (u .unspent) (k + u .closings) (m + u .pairings) (n + u .stores) (r .second)
+    ahead-goes t f d g =
         let v = pass outcome (u .unspent) rest in
         let w : made o (map F (drop j (placings r))) ≡ F p ∷ made (u .unspent) rest = rw t at made-opened in
         record {
           next = next-goes r count j p (a .next) h;
-          outcome = a .outcome ∙ ap (more k) (rw t at opened) ∙ (λ i. record { kind = v .kind; unspent = v .unspent; closings = sym (add-assoc k (u .closings) (v .closings)) i });
+          outcome = a .outcome ∙ ap (more k m) (rw t at opened) ∙ (λ i. record { kind = v .kind; unspent = v .unspent; closings = sym (add-assoc k (u .closings) (v .closings)) i; pairings = sym (add-assoc m (u .pairings) (v .pairings)) i });
           stores = omega (arith, a .stores, ap (fold SUM size) w, e .stores);
           few = omega (arith, a .few);
+          among = omega (arith, a .among, d);
           small = omega (arith, a .small, e .stores);
         }
 
-    pub ahead-stops : (u .kind ≡ Theorem → ⊥) → Comes b (map F (placings r)) (record { kind = u .kind; unspent = u .unspent; closings = k + u .closings; stores = n + u .stores })
+    pub ahead-stops : (u .kind ≡ Theorem → ⊥) → Comes b (map F (placings r)) (record { kind = u .kind; unspent = u .unspent; closings = k + u .closings; pairings = m + u .pairings; stores = n + u .stores })
     ahead-stops t =
         let s = stops (u .kind) t (outcomeOf u) (λ l. pass outcome l rest) (made (u .unspent) rest) in
         let w : made o (map F (drop j (placings r))) ≡ F p ∷ [] = made-opened ∙ ap (λ (Ps : List Sequent). F p ∷ Ps) (s .1) in
         record {
-          outcome = sym (a .outcome ∙ ap (more k) (opened ∙ s .0));
+          outcome = sym (a .outcome ∙ ap (more k m) (opened ∙ s .0));
           stores = omega (arith, a .stores, ap (fold SUM size) w, e .stores);
         }
 
-  pub ahead-ends : (j o k n : ℕ) (p : Placing) → Ahead F r b j o k n p → r .premises ≤ j
-      → Comes b (map F (placings r)) (record { kind = Theorem; unspent = o; closings = k; stores = n })
-  ahead-ends j o k n p a h =
+  pub ahead-ends : (j o k m n : ℕ) (p : Placing) → Ahead F r b j o k m n p → r .premises ≤ j
+      → Comes b (map F (placings r)) (record { kind = Theorem; unspent = o; closings = k; pairings = m; stores = n })
+  ahead-ends j o k m n p a h =
       let e = next-ends r count j h in
       record {
-        outcome = sym (a .outcome ∙ ap (λ (ps : List Placing). more k (pass outcome o (map F ps))) e ∙ (λ i. record { kind = Theorem; unspent = o; closings = add-zero k i }));
+        outcome = sym (a .outcome ∙ ap (λ (ps : List Placing). more k m (pass outcome o (map F ps))) e ∙ (λ i. record { kind = Theorem; unspent = o; closings = add-zero k i; pairings = add-zero m i }));
         stores = omega (arith, a .stores, ap (λ (ps : List Placing). fold SUM size (made o (map F ps))) e);
       }
 

@@ -4,7 +4,7 @@ use mathlib.Core.Path.{_≡_, refl, sym, ap, _∙_, subst}
 use mathlib.Core.Bool.{Bool, true, false}
 use mathlib.Core.Option.{none, some}
 use mathlib.Core.List.{List, [], _∷_}
-use Prim.Native.Nat.{ℕ, zero, suc, _+_, _%_, _≤_, _<_}
+use Prim.Native.Nat.{ℕ, zero, suc, _+_, _*_, _/_, _%_, _^_, _≤_, _<_}
 use native.Mathlib.Omega.{arith}
 use lib.Dec.{ltb}
 use borrow.Author.Tests.{ltb-false}
@@ -12,22 +12,40 @@ use Rattle.calculus.specs.declared.Side.{Side}
 use Rattle.calculus.specs.declared.Side.the-variants.{Left, Right}
 use Rattle.calculus.specs.Fold.{fold, ANY, Each, choose}
 use Rattle.calculus.specs.Limits.{ROOM, LETTERS}
-use Rattle.calculus.specs.Syntax.{Connective, Sequent, size}
+use Rattle.calculus.specs.Syntax.{AND, OR, IMPLIES, EQUIV, Connective, NOT, two, Sequent, size}
 use Rattle.calculus.specs.Bytes.{CONNECTIVE, code}
 use Rattle.calculus.specs.Table.{premises}
-use Rattle.calculus.specs.Tree.{letters, state, closing, first, due, tests, full, reduced, isClosed, isOpen, isFull, isSpent, isDue, afford, inner}
+use Rattle.calculus.specs.Tree.{letters, state, Way, closing, first, due, tests, full, reduced, isClosed, isOpen, isFull, isSpent, isDue, afford, inner}
 use Rattle.calculus.proofs.Folds.{or-false-both}
 use Rattle.sequent.specs.declared.Running.{Running}
 use Rattle.sequent.specs.declared.Reduction.{Reduction}
 use Rattle.sequent.specs.declared.Place.the-variants.{At, Nowhere}
-use Rattle.sequent.specs.Rule.{overfullOf}
+use Rattle.sequent.specs.Rule.{ruleOf, premiseOf, overfullOf}
 use Rattle.sequent.specs.View.{view, countOf, nameAt, sequentOf, Good}
-use Rattle.sequent.specs.Compounds.{Found, compoundAt, ruleFor, reductionAt}
+use Rattle.sequent.specs.Compounds.{Found, EqualAt, compoundAt, ruleFor, reductionAt}
 use Rattle.sequent.proofs.Restarts.{found-inside, found-name}
-use Rattle.sequent.proofs.Goods.{slot-name, compounded, full-is, found-left, found-right, found-nowhere}
+use Rattle.sequent.proofs.Goods.{held, slot-name, compounded, full-is, found-left, found-right, found-nowhere}
 use Rattle.prover.specs.Inner.{ReadyAt}
 
 -- ---- FULL
+
+-- the digits of the parts placed, by side
+abbrev pub rowOf : Side → ℕ
+rowOf Left = 0x2112100
+rowOf Right = 0x2221100
+
+-- they are the table's
+pub digit-placed : (k : Connective) (s : Side) → rowOf s / 2 ^ (4 * code (CONNECTIVE k)) % 16 ≡ size (premiseOf (ruleOf k s .first))
+digit-placed NOT Left = refl
+digit-placed NOT Right = refl
+digit-placed (two AND) Left = refl
+digit-placed (two AND) Right = refl
+digit-placed (two OR) Left = refl
+digit-placed (two OR) Right = refl
+digit-placed (two IMPLIES) Left = refl
+digit-placed (two IMPLIES) Right = refl
+digit-placed (two EQUIV) Left = refl
+digit-placed (two EQUIV) Right = refl
 
 -- no premise is over the room
 each-within : (Ps : List Sequent) → fold ANY (λ P. ltb ROOM (size P)) Ps ≡ false → Each (λ P. size P ≤ ROOM) Ps
@@ -94,8 +112,11 @@ module _ (T items : List ℕ) (s : Running) (good : Good T items s) (t : Side) (
 -- ---- the tests in their order
 
 module _ (T items : List ℕ) (s : Running) (good : Good T items s) (left : ℕ) where
-  pub inner-closed : (k : ℕ) → closing (sequentOf T items s) ≡ some k → isClosed k ≡ inner left (sequentOf T items s)
-  inner-closed k e = ap (λ o. afford left (tests (sequentOf T items s) o (first (sequentOf T items s .on-left)) (first (sequentOf T items s .on-right)))) (sym e)
+  pub pair-small : (i j : ℕ) → EqualAt (view s items) i j → (i < ROOM) × (j < ROOM)
+  pair-small i j e = (omega (arith, e .left, held T items s good Left, good .room), omega (arith, e .right, held T items s good Right, good .room))
+
+  pub inner-closed : (w : Way) → closing (sequentOf T items s) ≡ some w → isClosed w ≡ inner left (sequentOf T items s)
+  inner-closed w e = ap (λ o. afford left (tests (sequentOf T items s) o (first (sequentOf T items s .on-left)) (first (sequentOf T items s .on-right)))) (sym e)
 
   pub inner-due : closing (sequentOf T items s) ≡ none → (t : Side) (i : ℕ) → Found (view s items) (At t i)
       → afford left (due (sequentOf T items s) t i (compoundAt T t i (view s items))) ≡ inner left (sequentOf T items s)

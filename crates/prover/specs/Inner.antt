@@ -2,19 +2,21 @@
 use mathlib.Core.Path.{_≡_}
 use mathlib.Core.List.{List}
 use Prim.Native.Nat.{ℕ, _<_}
+use Rattle.calculus.specs.Limits.{ROOM}
 use Rattle.calculus.specs.Syntax.{Seq}
-use Rattle.calculus.specs.Tree.{Inner, isClosed, isOpen, isFull, isSpent, isDue, inner}
+use Rattle.calculus.specs.Tree.{lettered, paired, Inner, isClosed, isOpen, isFull, isSpent, isDue, inner}
 use Rattle.sequent.specs.declared.Running.{Running}
 use Rattle.sequent.specs.declared.Reduction.{Reduction}
 use Rattle.sequent.specs.declared.Place.the-variants.{At}
 use Rattle.sequent.specs.View.{view, sequentOf, Good}
 use Rattle.sequent.specs.Compounds.{Found, compoundAt, Reducible}
 use Rattle.prover.specs.declared.Finding.{Finding}
-use Rattle.prover.specs.declared.Finding.the-variants.{Closed, Open, Full, Spent, Reduce}
+use Rattle.prover.specs.declared.Finding.the-variants.{Closed, Paired, Open, Full, Spent, Reduce}
 
 -- document 01's outcome of the tests, for each answer, where these are the names
 abbrev pub innerOf : List ℕ → Seq ℕ → Finding → Inner
-innerOf T N (Closed k) = isClosed k
+innerOf T N (Closed k) = isClosed (lettered k)
+innerOf T N (Paired i j) = isClosed (paired i j)
 innerOf T N (Open σ) = isOpen σ
 innerOf T N Full = isFull
 innerOf T N Spent = isSpent
@@ -26,8 +28,10 @@ pub record ReadyAt (T items : List ℕ) (s : Running) (left : ℕ) (r : Reductio
   pub can : Reducible T items s r
   pub affords : 0 < left
 
+-- that, or places of a running sequent
 abbrev pub Ready : List ℕ → List ℕ → Running → ℕ → Finding → Type 0
 Ready T items s left (Closed k) = Unit {0}
+Ready T items s left (Paired i j) = (i < ROOM) × (j < ROOM)
 Ready T items s left (Open σ) = Unit {0}
 Ready T items s left Full = Unit {0}
 Ready T items s left Spent = Unit {0}

@@ -23,11 +23,11 @@ made b [] = []
 made b (P ∷ Ps) = P ∷ after (outcome b P .kind) (made (outcome b P .unspent) Ps)
 
 -- a run that ends here
-abbrev pub ended : Kind → ℕ → ℕ → Outcome
-ended k b n = record { kind = k; unspent = b; closings = n }
+abbrev pub ended : Kind → ℕ → ℕ → ℕ → Outcome
+ended k b n m = record { kind = k; unspent = b; closings = n; pairings = m }
 
 abbrev pub outcomeOf : Reduced → Outcome
-outcomeOf r = record { kind = r .kind; unspent = r .unspent; closings = r .closings }
+outcomeOf r = record { kind = r .kind; unspent = r .unspent; closings = r .closings; pairings = r .pairings }
 
 -- what a premise comes to; the stores made for it are its formulas
 pub record Ran (b : ℕ) (P : Sequent) (r : Reduced) : Type 0 where

@@ -12,16 +12,17 @@ use sequent::ROOM;
 use sequent::Reduction;
 use sequent::Running;
 ghost use mathlib.Core.Path.{_≡_};
+ghost use mathlib.Core.Option.{none};
 ghost use Prim.Native.Nat.{_%_, _≤_};
 ghost use Rattle.calculus.specs.Limits;
 ghost use Rattle.calculus.specs.Limits.{CONNECTIVES};
-ghost use Rattle.calculus.specs.Syntax.{Connective, c};
+ghost use Rattle.calculus.specs.Syntax.{Connective, c, size};
 ghost use Rattle.calculus.specs.Bytes.{CONNECTIVE, code, question};
 ghost use Rattle.calculus.specs.Reading.{reading, accepted};
 ghost use Rattle.calculus.specs.Reply.{decideReply};
-ghost use Rattle.calculus.specs.Tree.{verdict, outcome, afford, due};
+ghost use Rattle.calculus.specs.Tree.{verdictOf, outcome, closing, afford, due};
 ghost use Rattle.sequent.specs.declared.Place.the-variants.{At};
-ghost use Rattle.sequent.specs.Rule.{overfullOf};
+ghost use Rattle.sequent.specs.Rule.{premiseOf, overfullOf};
 ghost use Rattle.sequent.specs.View.{view, sequentOf, Good};
 ghost use Rattle.sequent.specs.Compounds.{Clear, Found, compoundAt, ruleFor, premisesAt, premiseBy, Makes};
 ghost use Rattle.prover.specs.Answers.{decisionOf, Promised};
@@ -51,16 +52,30 @@ pub struct Reduced {
     pub stores: usize,
 }
 
-// Whether a premise of the reduction would hold more formulas than there is room for, n being held now. Both premises of a
-// rule place as many parts, so the first tells.
+// How many parts each premise of a reduction places, on the left and on the right: a digit for each connective, at its command.
+const LEFT: u32 = 0x2_1_1_2_1_0_0;
+
+const RIGHT: u32 = 0x2_2_2_1_1_0_0;
+
+// How many parts each premise of a reduction places. Both premises of a rule place as many.
+fn placed(r: Reduction) -> usize
+    requires { ⌜ ((k : Connective) × (code (CONNECTIVE k) ≡ r .node % 256)) ⌝ }
+    ensures { λ n. ⌜ n ≡ size (premiseOf (ruleFor r .first)) ⌝ }
+{
+    let side = r.side;
+    let row = match side {
+        Side::Left => LEFT,
+        Side::Right => RIGHT,
+    };
+    ((row >> (4 * r.command())) % 16) as usize
+}
+
+// Whether a premise of the reduction would hold more formulas than there is room for, n being held now.
 fn overfull(r: Reduction, n: usize) -> bool
     requires { ⌜ (n ≤ Limits.ROOM) × ((k : Connective) × (code (CONNECTIVE k) ≡ r .node % 256)) ⌝ }
     ensures { λ b. ⌜ b ≡ overfullOf (ruleFor r) n ⌝ }
 {
-    if r.command() == 2 {
-        return false;
-    }
-    ROOM <= n
+    ROOM + 1 < n + placed(r)
 }
 
 // The tests at a sequent whose first compound is at a place of a side: FULL, SPENT, then the reduction.
@@ -93,6 +108,21 @@ fn due_at(
     Finding::Reduce(r)
 }
 
+// The tests at a sequent that is not closed.
+fn first_due(nodes: &[u32; 48], items: &[u8; 80], s: Running, from: usize, left: u64) -> Finding
+    requires { ⌜
+        Good (now nodes) (now items) s
+        × Clear from (now items) s
+        × (closing (sequentOf (now nodes) (now items) s) ≡ none) ⌝ }
+    ensures { λ r. ⌜ Stepped (now (nodes .entry)) (now (items .entry)) s left r ⌝ }
+{
+    let place = s.first_compound(items, from);
+    match place {
+        Place::At(side, at) => due_at(nodes, items, s, side, at, left),
+        Place::Nowhere => Finding::Open(s.leftmask),
+    }
+}
+
 // The inner step: one sequent through the tests in their order, with the reductions left. Its answer says what is due and
 // does nothing, so that no run made from it goes on after SPENT. Letters alone stand before place `from`.
 pub fn step(nodes: &[u32; 48], items: &[u8; 80], s: Running, from: usize, left: u64) -> Finding
@@ -107,15 +137,6 @@ pub fn step(nodes: &[u32; 48], items: &[u8; 80], s: Running, from: usize, left: 
     match twins {
         Pair::Both(i, j) => Finding::Paired(i, j),
         Pair::Neither => first_due(nodes, items, s, from, left),
-    }
-}
-
-// The tests at a sequent that is not closed.
-fn first_due(nodes: &[u32; 48], items: &[u8; 80], s: Running, from: usize, left: u64) -> Finding {
-    let place = s.first_compound(items, from);
-    match place {
-        Place::At(side, at) => due_at(nodes, items, s, side, at, left),
-        Place::Nowhere => Finding::Open(s.leftmask),
     }
 }
 

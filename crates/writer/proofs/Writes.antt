@@ -14,8 +14,8 @@ use Rattle.calculus.specs.Fold.{fold, SUM, Each}
 use Rattle.calculus.specs.Limits.{LETTERS, ROOM}
 use Rattle.calculus.specs.Syntax.{Compound, Sequent, size}
 use Rattle.calculus.specs.Table.{premises}
-use Rattle.calculus.specs.Tree.{letters, state, Step, closed, opened, full, reduced, step, Event, reduce, Tree, follow, chain, under, grow, tree, Inner, isClosed, isOpen, isFull, isSpent, isDue, afford, inner}
-use Rattle.calculus.specs.Derivation.{CLOSE, REDUCE, orderCode, writtenAll, derivation}
+use Rattle.calculus.specs.Tree.{letters, state, Way, lettered, Step, closed, opened, full, reduced, step, Event, close, reduce, Tree, follow, chain, under, grow, tree, Inner, isClosed, isOpen, isFull, isSpent, isDue, afford, inner}
+use Rattle.calculus.specs.Derivation.{REDUCE, orderCode, written, writtenAll, derivation}
 use Rattle.calculus.proofs.Buffers.{sets-append}
 use Rattle.calculus.proofs.Derivations.{writtenAll-append}
 use Rattle.calculus.proofs.Trees.{tree-grows, right-step, bit-state}
@@ -26,7 +26,7 @@ use Rattle.sequent.specs.Rule.{placings}
 use Rattle.sequent.proofs.Lists.{each-unmap}
 use Rattle.sequent.proofs.Placings.{OneOrTwo, next-ends, next-each, Summed, sum-starts, sum-goes, sum-ends}
 use Rattle.prover.specs.declared.Finding.{Finding}
-use Rattle.prover.specs.declared.Finding.the-variants.{Closed, Open, Full as FullFound, Spent as SpentFound, Reduce}
+use Rattle.prover.specs.declared.Finding.the-variants.{Closed, Paired, Open, Full as FullFound, Spent as SpentFound, Reduce}
 use Rattle.prover.specs.Inner.{innerOf}
 use Rattle.prover.proofs.Finding.{the-type}
 use Rattle.calculus.specs.Syntax.{Seq}
@@ -40,13 +40,16 @@ use types.Run.{OneOf, miss}
 pub sets-two : (l : List ℕ) (at a b : ℕ) → set (set l at a) (at + 1) b ≡ sets l at (a ∷ b ∷ [])
 sets-two l at a b = ap (λ (k : ℕ). set (set l at a) k b) (add-one at)
 
+pub sets-three : (l : List ℕ) (at a b d : ℕ) → set (sets l at (a ∷ b ∷ [])) (at + 2) d ≡ sets l at (a ∷ b ∷ d ∷ [])
+sets-three l at a b d = sets-append l at (a ∷ b ∷ []) (d ∷ [])
+
 -- ---- the tree of a theorem, by what the inner step says
 
-closed-step : (t : Step) (k : ℕ) → afford 1 t ≡ isClosed k → t ≡ closed k
-closed-step (closed j) k e = cc
-closed-step (opened σ) k e = cc
-closed-step full k e = cc
-closed-step (reduced s i x) k e = cc
+closed-step : (t : Step) (w : Way) → afford 1 t ≡ isClosed w → t ≡ closed w
+closed-step (closed v) w e = cc
+closed-step (opened σ) w e = cc
+closed-step full w e = cc
+closed-step (reduced s i x) w e = cc
 
 due-step : (t : Step) (s : Side) (i : ℕ) (x : Compound) → afford 1 t ≡ isDue s i x → t ≡ reduced s i x
 due-step (closed j) s i x e = cc
@@ -54,18 +57,18 @@ due-step (opened σ) s i x e = cc
 due-step full s i x e = cc
 due-step (reduced u j y) s i x e = cc
 
-pub derivation-closed : (S : Sequent) (k : ℕ) → isClosed k ≡ inner 1 S → derivation S ≡ orderCode CLOSE ∷ k ∷ []
-derivation-closed S k e = ap (λ (t : Tree). writtenAll (t .events)) (tree-grows S ∙ ap (grow tree S) (closed-step (step S) k (sym e)))
+pub derivation-closed : (S : Sequent) (w : Way) → isClosed w ≡ inner 1 S → derivation S ≡ written (close w) ++ []
+derivation-closed S w e = ap (λ (t : Tree). writtenAll (t .events)) (tree-grows S ∙ ap (grow tree S) (closed-step (step S) w (sym e)))
 
 -- The letter that closes a sequent is within the limit.
-pub closed-small : (S : Sequent) (k : ℕ) → isClosed k ≡ inner 1 S → state (letters (S .on-left)) < 2 ^ LETTERS → k < LETTERS
+pub closed-small : (S : Sequent) (k : ℕ) → isClosed (lettered k) ≡ inner 1 S → state (letters (S .on-left)) < 2 ^ LETTERS → k < LETTERS
 closed-small S k e h =
-    let r = rw (closed-step (step S) k (sym e)) at (right-step S) in
+    let r = rw (closed-step (step S) (lettered k) (sym e)) at (right-step S) in
     bit-below LETTERS k (state (letters (S .on-left))) h (bit-state k (letters (S .on-left)) ∙ r .0)
 
 -- An open sequent, or a full one, is no theorem.
 abbrev pub Goes : Inner → Type 0
-Goes (isClosed k) = Unit {0}
+Goes (isClosed w) = Unit {0}
 Goes (isOpen σ) = ⊥
 Goes isFull = ⊥
 Goes isSpent = ⊥
@@ -75,21 +78,22 @@ pub theorem-goes : (S : Sequent) → tree S .end ≡ Theorem → Goes (inner 1 S
 theorem-goes S h = go (step S) (ap (λ (t : Tree). t .end) (sym (tree-grows S)) ∙ h)
   where
     go : (t : Step) → grow tree S t .end ≡ Theorem → Goes (afford 1 t)
-    go (closed k) e = tt
+    go (closed w) e = tt
     go (opened σ) e = let z : _≡_ {A = ℕ} 0 1 = cc in omega arith
     go full e = let z : _≡_ {A = ℕ} 0 1 = cc in omega arith
     go (reduced s i x) e = tt
 
 -- A theorem's step is closed or reduced.
-pub no-other : {Q : Type 0} (T : List ℕ) (N : Seq ℕ) (S : Sequent) (r : Finding) → innerOf T N r ≡ inner 1 S → tree S .end ≡ Theorem → OneOf (1 ∷ 2 ∷ 3 ∷ []) (tagOf the-type r) → Q
+pub no-other : {Q : Type 0} (T : List ℕ) (N : Seq ℕ) (S : Sequent) (r : Finding) → innerOf T N r ≡ inner 1 S → tree S .end ≡ Theorem → OneOf (2 ∷ 3 ∷ 4 ∷ []) (tagOf the-type r) → Q
 no-other {Q} T N S r e h k = go r (subst Goes (sym e) (theorem-goes S h)) k
   where
-    go : (r : Finding) → Goes (innerOf T N r) → OneOf (1 ∷ 2 ∷ 3 ∷ []) (tagOf the-type r) → Q
-    go (Closed j) g k = absurd (miss (1 ∷ 2 ∷ 3 ∷ []) 0 tt k)
+    go : (r : Finding) → Goes (innerOf T N r) → OneOf (2 ∷ 3 ∷ 4 ∷ []) (tagOf the-type r) → Q
+    go (Closed j) g k = absurd (miss (2 ∷ 3 ∷ 4 ∷ []) 0 tt k)
+    go (Paired i j) g k = absurd (miss (2 ∷ 3 ∷ 4 ∷ []) 1 tt k)
     go (Open σ) g k = absurd g
     go FullFound g k = absurd g
     go SpentFound g k = absurd g
-    go (Reduce u) g k = absurd (miss (1 ∷ 2 ∷ 3 ∷ []) 4 tt k)
+    go (Reduce u) g k = absurd (miss (2 ∷ 3 ∷ 4 ∷ []) 5 tt k)
 
 reduced-tree : (S : Sequent) (s : Side) (i : ℕ) (x : Compound) → isDue s i x ≡ inner 1 S → tree S ≡ under (reduce s i (x .connective)) (chain tree (premises s i x S))
 reduced-tree S s i x e = tree-grows S ∙ ap (grow tree S) (due-step (step S) s i x (sym e))

@@ -10,7 +10,7 @@ use Rattle.calculus.specs.Limits.{NOT-PROVED, NO-SPACE}
 use Rattle.calculus.specs.Bytes.{question}
 use Rattle.calculus.specs.Reading.{accepted, reading}
 use Rattle.calculus.specs.Truth.{Valid}
-use Rattle.calculus.specs.Tree.{tree, reductions, closings}
+use Rattle.calculus.specs.Tree.{tree, reductions, closings, pairings}
 use Rattle.calculus.specs.Derivation.{derivation, passes, checking}
 use Rattle.calculus.specs.Syntax.{Sequent}
 use Rattle.calculus.specs.Reply.{Reply, verdictReply, writeOut}
@@ -31,9 +31,10 @@ answerOf (NotProved v) = unproved (v .kind) (v .reductions) (v .closings)
 answerOf (NoSpace n) = record { number = NO-SPACE; values = n ∷ [] }
 answerOf (Written n v) = record { number = 0; values = n ∷ v .reductions ∷ v .closings ∷ [] }
 
--- the whole tree's verdict: a theorem, with both counts
-pub record IsTheorem (S : Sequent) (v : Verdict) : Type 0 where
+-- the whole tree's verdict: a theorem, with both counts, n of its closings by equal formulas
+pub record IsTheorem (S : Sequent) (v : Verdict) (n : ℕ) : Type 0 where
   pub proved : tree S .end ≡ Theorem
+  pub pairs : n ≡ pairings (tree S .events)
   pub counts : v ≡ record { kind = Theorem; reductions = reductions (tree S .events); closings = closings (tree S .events) }
 
 -- a theorem's answer, and the buffer after it, as `writeOut` has them

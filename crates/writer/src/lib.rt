@@ -16,7 +16,7 @@ ghost use lib.Seq.{sets};
 ghost use Rattle.calculus.specs.Fold.{fold, SUM, Each};
 ghost use Rattle.calculus.specs.Syntax.{Connective, size};
 ghost use Rattle.calculus.specs.Bytes.{CONNECTIVE, code, question};
-ghost use Rattle.calculus.specs.Derivation.{REDUCE, orderCode, derivation};
+ghost use Rattle.calculus.specs.Derivation.{PAIR, REDUCE, orderCode, derivation};
 ghost use Rattle.calculus.specs.Reading.{reading, accepted};
 ghost use Rattle.calculus.specs.Reply.{derive};
 ghost use Rattle.calculus.specs.Tree.{tree};
@@ -183,11 +183,13 @@ fn emit_premises(
     }
 }
 
-// The derivation of a theorem, if the buffer holds it.
-fn write_out(q: &[u8], v: Verdict, needed: u64, buffer: &mut [u8]) -> Writing
-    requires { ⌜ (reading (now q) ≡ accepted) × IsTheorem (question (now q)) v ⌝ }
+// The derivation of a theorem, if the buffer holds it: two bytes for each reduction and closing, and one more for each closing by
+// equal formulas.
+fn write_out(q: &[u8], v: Verdict, pairings: u64, buffer: &mut [u8]) -> Writing
+    requires { ⌜ (reading (now q) ≡ accepted) × IsTheorem (question (now q)) v pairings ⌝ }
     ensures { λ r. ⌜ WrittenOut (question (now (q .entry))) v (now (buffer .entry)) (now (buffer .exit)) r ⌝ }
 {
+    let needed = 2 * (v.reductions + v.closings) + pairings;
     if (buffer.len() as u64) < needed {
         return Writing::NoSpace(needed);
     }
@@ -213,12 +215,7 @@ pub fn derive(q: &[u8], budget: u64, buffer: &mut [u8]) -> Writing
             let v = prover::verdict_of(o, budget);
             let kind = v.kind;
             match kind {
-                Kind::Theorem => write_out(
-                    q,
-                    v,
-                    2 * (v.reductions + v.closings) + o.pairings,
-                    buffer,
-                ),
+                Kind::Theorem => write_out(q, v, o.pairings, buffer),
                 _ => Writing::NotProved(v),
             }
         }

@@ -15,7 +15,7 @@ use Rattle.sequent.specs.declared.Rule.{Rule}
 use Rattle.sequent.specs.View.{view, sequentOf}
 use Rattle.sequent.specs.Compounds.{compoundAt, ruleFor, premiseBy, Makes}
 use Rattle.sequent.proofs.Goods.{premises-made, few, command-made, makes-next, premise-asks, made-is, made-good, made-stores, made-clear}
-use Rattle.prover.proofs.Runs.{answered, closings-small, Ahead, ahead-starts, ahead-goes, ahead-stops, ahead-ends}
+use Rattle.prover.proofs.Runs.{answered, closings-small, pairings-small, Ahead, ahead-starts, ahead-goes, ahead-stops, ahead-ends}
 use Rattle.prover.proofs.reduce.Reads as reduce
 use Rattle.prover.proofs.reduce.Kinds as reduce-kinds
 use Rattle.prover.proofs.+reduce+run+run_premise.Lts-reduce as reduce-lts
@@ -65,11 +65,11 @@ run-premise-below t =
 -- ---- the loop over the premises
 
 abbrev reduce-Inv-loop : reduce-lts.InvT-loop
-reduce-Inv-loop nodes items s r left rule n p₀ unspent₀ closings₀ stores₀ j₀ p unspent closings stores j =
-    Ahead (premiseBy nodes items s r) (ruleFor r) left j unspent closings stores p
+reduce-Inv-loop nodes items s r left rule n p₀ unspent₀ closings₀ pairings₀ stores₀ j₀ p unspent closings pairings stores j =
+    Ahead (premiseBy nodes items s r) (ruleFor r) left j unspent closings pairings stores p
 
 abbrev reduce-μ-loop : reduce-lts.MeasureT-loop
-reduce-μ-loop nodes items s r left rule n p₀ unspent₀ closings₀ stores₀ j₀ p unspent closings stores j = n - j
+reduce-μ-loop nodes items s r left rule n p₀ unspent₀ closings₀ pairings₀ stores₀ j₀ p unspent closings pairings stores j = n - j
 
 abbrev reduce-calls : ℕ → reduce-lts.Claims
 reduce-calls t = (rule-reads.Asked, rule-reads.Learnt, run-premise-below t, run-premise.Post)
@@ -106,6 +106,14 @@ closings-now t c =
     let P = premiseBy (a .nodes .now) (a .items .now) (a .s) (a .r) (l .p) in
     omega (arith, ap (λ (o : Outcome). o .closings) (c .run-premise .ensures .outcome), closings-small (l .unspent) P (omega (arith, makes-now t (c .before) .fewer, s .pre .1 .1)))
 
+pairings-now : (t : ℕ) (c : reduce-lts.After-run-premise (reduce-calls t) (reduce-at t) reduce.Post reduce-Inv-loop reduce-μ-loop)
+    → c .run-premise .result .pairings ≤ c .run-premise .result .closings
+pairings-now t c =
+    let s = c .before .before .before .before .before in
+    let a = s .args in
+    let l = c .before .before .loop in
+    subst (λ (o : Outcome). o .pairings ≤ o .closings) (sym (c .run-premise .ensures .outcome)) (pairings-small (l .unspent) (premiseBy (a .nodes .now) (a .items .now) (a .s) (a .r) (l .p)))
+
 pub +reduce+run+run-premise-spec : {M : Type 1} → statement M
 +reduce+run+run-premise-spec = close μ-reduce μ-run μ-run-premise (λ t. reduce-lts.spec (reduce-calls t)
     (reduce-at t)
@@ -120,41 +128,42 @@ pub +reduce+run+run-premise-spec : {M : Type 1} → statement M
     let s = c .before .before in
     let a = s .args in
     let h = s .pre .1 in
-    subst (λ (u : Rule). Ahead (premiseBy (a .nodes .now) (a .items .now) (a .s) (a .r)) (ruleFor (a .r)) (a .left) 0 (a .left) 0 0 (u .first)) (sym (c .before .rule .ensures)) (ahead-starts (premiseBy (a .nodes .now) (a .items .now) (a .s) (a .r)) (ruleFor (a .r)) (few (a .nodes .now) (a .items .now) (a .s) (h .0 .good) (a .r) (h .0 .can)) (a .left)))
+    subst (λ (u : Rule). Ahead (premiseBy (a .nodes .now) (a .items .now) (a .s) (a .r)) (ruleFor (a .r)) (a .left) 0 (a .left) 0 0 0 (u .first)) (sym (c .before .rule .ensures)) (ahead-starts (premiseBy (a .nodes .now) (a .items .now) (a .s) (a .r)) (ruleFor (a .r)) (few (a .nodes .now) (a .items .now) (a .s) (h .0 .good) (a .r) (h .0 .can)) (a .left)))
     (λ c κs.
     let s = c .before .before .before .before in
     let h = s .pre .1 in
     (omega (arith, s .pre .0), (makes-now t c, h .0 .found, h .1)))
     (λ c. omega (arith, closings-now t (c .before), j-small t (c .before .before), c .before .before .before .loop .inv .few))
-    (λ c. omega (arith, c .before .before .run-premise .ensures .stores, makes-now t (c .before .before .before) .small, j-small t (c .before .before .before), c .before .before .before .before .loop .inv .small))
+    (λ c. omega (arith, closings-now t (c .before .before), pairings-now t (c .before .before), j-small t (c .before .before .before), c .before .before .before .before .loop .inv .few, c .before .before .before .before .loop .inv .among))
+    (λ c. omega (arith, c .before .before .before .run-premise .ensures .stores, makes-now t (c .before .before .before .before) .small, j-small t (c .before .before .before .before), c .before .before .before .before .before .loop .inv .small))
     (λ c. search needs)
     (λ c.
-    let s = c .before .before .before .before .before .before .before .before in
+    let s = c .before .before .before .before .before .before .before .before .before in
     let a = s .args in
     let h = s .pre .1 in
-    let l = c .before .before .before .before .before .loop in
-    let u = c .before .before .before .run-premise in
+    let l = c .before .before .before .before .before .before .loop in
+    let u = c .before .before .before .before .run-premise in
     rw (← premises-made (a .nodes .now) (a .items .now) (a .s) (h .0 .good) (a .r) (h .0 .can))
-    (ahead-stops (premiseBy (a .nodes .now) (a .items .now) (a .s) (a .r)) (ruleFor (a .r)) (few (a .nodes .now) (a .items .now) (a .s) (h .0 .good) (a .r) (h .0 .can)) (a .left) (l .j) (l .unspent) (l .closings) (l .stores) (l .p) (l .inv) (taken-now t (c .before .before .before .before))
+    (ahead-stops (premiseBy (a .nodes .now) (a .items .now) (a .s) (a .r)) (ruleFor (a .r)) (few (a .nodes .now) (a .items .now) (a .s) (h .0 .good) (a .r) (h .0 .can)) (a .left) (l .j) (l .unspent) (l .closings) (l .pairings) (l .stores) (l .p) (l .inv) (taken-now t (c .before .before .before .before .before))
     (u .result) (u .ensures) (λ k. miss (1 ∷ 2 ∷ 3 ∷ []) 0 tt (rw k at (c .match .keys2)))))
-    (λ c. omega (arith, j-small t (c .before .before .before .before .before .before)))
-    (λ c. omega (arith, c .before .before .before .before .before .before .loop-test .taken))
+    (λ c. omega (arith, j-small t (c .before .before .before .before .before .before .before)))
+    (λ c. omega (arith, c .before .before .before .before .before .before .before .loop-test .taken))
     (λ c.
-    let s = c .before .before .before .before .before .before .before .before .before .before in
+    let s = c .before .before .before .before .before .before .before .before .before .before .before in
     let a = s .args in
     let h = s .pre .1 in
-    let l = c .before .before .before .before .before .before .before .loop in
-    let u = c .before .before .before .before .before .run-premise in
-    subst (λ (v : Rule). Ahead (premiseBy (a .nodes .now) (a .items .now) (a .s) (a .r)) (ruleFor (a .r)) (a .left) (l .j + 1) (u .result .unspent) (l .closings + u .result .closings) (l .stores + u .result .stores) (v .second)) (sym (c .before .before .before .before .before .before .before .before .before .rule .ensures))
-    (ahead-goes (premiseBy (a .nodes .now) (a .items .now) (a .s) (a .r)) (ruleFor (a .r)) (few (a .nodes .now) (a .items .now) (a .s) (h .0 .good) (a .r) (h .0 .can)) (a .left) (l .j) (l .unspent) (l .closings) (l .stores) (l .p) (l .inv) (taken-now t (c .before .before .before .before .before .before))
-    (u .result) (u .ensures) (c .before .enum-told .given .1) (closings-now t (c .before .before .before .before .before)) (makes-now t (c .before .before .before .before .before .before) .small)))
+    let l = c .before .before .before .before .before .before .before .before .loop in
+    let u = c .before .before .before .before .before .before .run-premise in
+    subst (λ (v : Rule). Ahead (premiseBy (a .nodes .now) (a .items .now) (a .s) (a .r)) (ruleFor (a .r)) (a .left) (l .j + 1) (u .result .unspent) (l .closings + u .result .closings) (l .pairings + u .result .pairings) (l .stores + u .result .stores) (v .second)) (sym (c .before .before .before .before .before .before .before .before .before .before .rule .ensures))
+    (ahead-goes (premiseBy (a .nodes .now) (a .items .now) (a .s) (a .r)) (ruleFor (a .r)) (few (a .nodes .now) (a .items .now) (a .s) (h .0 .good) (a .r) (h .0 .can)) (a .left) (l .j) (l .unspent) (l .closings) (l .pairings) (l .stores) (l .p) (l .inv) (taken-now t (c .before .before .before .before .before .before .before))
+    (u .result) (u .ensures) (c .before .enum-told .given .1) (closings-now t (c .before .before .before .before .before .before)) (pairings-now t (c .before .before .before .before .before .before)) (makes-now t (c .before .before .before .before .before .before .before) .small)))
     (λ c.
     let s = c .before .before .before .before in
     let a = s .args in
     let h = s .pre .1 in
     let l = c .before .loop in
     rw (← premises-made (a .nodes .now) (a .items .now) (a .s) (h .0 .good) (a .r) (h .0 .can))
-    (ahead-ends (premiseBy (a .nodes .now) (a .items .now) (a .s) (a .r)) (ruleFor (a .r)) (few (a .nodes .now) (a .items .now) (a .s) (h .0 .good) (a .r) (h .0 .can)) (a .left) (l .j) (l .unspent) (l .closings) (l .stores) (l .p) (l .inv) (subst (λ (u : Rule). u .premises ≤ l .j) (c .before .before .before .rule .ensures) (c .loop-test .left)))))
+    (ahead-ends (premiseBy (a .nodes .now) (a .items .now) (a .s) (a .r)) (ruleFor (a .r)) (few (a .nodes .now) (a .items .now) (a .s) (h .0 .good) (a .r) (h .0 .can)) (a .left) (l .j) (l .unspent) (l .closings) (l .pairings) (l .stores) (l .p) (l .inv) (subst (λ (u : Rule). u .premises ≤ l .j) (c .before .before .before .rule .ensures) (c .loop-test .left)))))
     (λ t. run-lts.spec (
       step-reads.Asked,
       step-reads.Learnt,
@@ -175,6 +184,8 @@ pub +reduce+run+run-premise-spec : {M : Type 1} → statement M
     (λ c. search needs)
     (λ c κs. search needs)
     (λ c. search needs)
+    (λ c κs. search needs)
+    (λ c. search needs)
     (λ c. let w = rw (c .before .due2 .given .1) at (c .before .before .before .step .ensures .ready) in omega (arith, w .affords))
     (λ c κs.
     let s = c .before .before .before .before in
@@ -183,12 +194,13 @@ pub +reduce+run+run-premise-spec : {M : Type 1} → statement M
     (omega (arith, h .0), (record { good = h .1 .0; found = w .found; can = w .can }, h .1 .2)))
     (λ c κs. search needs)
     (λ c. let s = c .before .before .before .before in c .ended .ensures ∙ rw (c .before .enum-told .given .1) at (answered (s .args .nodes .now) (s .args .items .now) (s .args .s) (s .args .left) (c .before .before .before .step .result) (c .before .before .before .step .ensures)))
-    (λ c. let s = c .before .before .before .before .before in c .ended2 .ensures ∙ rw (c .before .before .due .given .1) at (answered (s .args .nodes .now) (s .args .items .now) (s .args .s) (s .args .left) (c .before .before .before .before .step .result) (c .before .before .before .before .step .ensures)))
-    (λ c. let s = c .before .before .before .before in c .ended3 .ensures ∙ rw (c .before .enum-told2 .given .1) at (answered (s .args .nodes .now) (s .args .items .now) (s .args .s) (s .args .left) (c .before .before .before .step .result) (c .before .before .before .step .ensures)))
+    (λ c. let s = c .before .before .before .before in c .ended2 .ensures ∙ rw (c .before .enum-told2 .given .1) at (answered (s .args .nodes .now) (s .args .items .now) (s .args .s) (s .args .left) (c .before .before .before .step .result) (c .before .before .before .step .ensures)))
+    (λ c. let s = c .before .before .before .before .before in c .ended3 .ensures ∙ rw (c .before .before .due .given .1) at (answered (s .args .nodes .now) (s .args .items .now) (s .args .s) (s .args .left) (c .before .before .before .before .step .result) (c .before .before .before .before .step .ensures)))
     (λ c. let s = c .before .before .before .before in c .ended4 .ensures ∙ rw (c .before .enum-told3 .given .1) at (answered (s .args .nodes .now) (s .args .items .now) (s .args .s) (s .args .left) (c .before .before .before .step .result) (c .before .before .before .step .ensures)))
+    (λ c. let s = c .before .before .before .before in c .ended5 .ensures ∙ rw (c .before .enum-told4 .given .1) at (answered (s .args .nodes .now) (s .args .items .now) (s .args .s) (s .args .left) (c .before .before .before .step .result) (c .before .before .before .step .ensures)))
     (λ c.
     let s = c .before .before .before .before .before .before in
-    c .ended5 .ensures ∙ c .before .reduce .ensures .outcome ∙ rw (c .before .before .before .due2 .given .1) at (answered (s .args .nodes .now) (s .args .items .now) (s .args .s) (s .args .left) (c .before .before .before .before .before .step .result) (c .before .before .before .before .before .step .ensures))))
+    c .ended6 .ensures ∙ c .before .reduce .ensures .outcome ∙ rw (c .before .before .before .due2 .given .1) at (answered (s .args .nodes .now) (s .args .items .now) (s .args .s) (s .args .left) (c .before .before .before .before .before .step .result) (c .before .before .before .before .before .step .ensures))))
     λ t. run-premise-lts.spec (
       premise-reads.Asked,
       premise-reads.Learnt,

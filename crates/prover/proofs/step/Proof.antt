@@ -1,15 +1,16 @@
-use mathlib.Core.Path.{_≡_, _∙_}
-use mathlib.Core.Option.{none}
-use Prim.Native.Nat.{_^_, _<_}
+use mathlib.Core.Path.{_≡_, ap, _∙_}
+use mathlib.Core.Option.{Option, none, some}
+use Prim.Native.Nat.{ℕ, _^_, _<_}
 use native.Mathlib.Omega.{arith}
 use borrow.Author.Needs.{needs}
 use Rattle.calculus.specs.declared.Side.the-variants.{Left, Right}
 use Rattle.calculus.specs.Limits.{LETTERS}
-use Rattle.calculus.specs.Tree.{letters, closing}
-use Rattle.sequent.specs.View.{sequentOf}
-use Rattle.sequent.proofs.Goods.{masks-state}
+use Rattle.calculus.specs.Tree.{letters, common, twins, lettered, paired, either}
+use Rattle.sequent.specs.declared.Pair.the-variants.{Both, Neither}
+use Rattle.sequent.specs.View.{view, sequentOf}
+use Rattle.sequent.proofs.Goods.{masks-state, twins-are}
 use Rattle.prover.proofs.Closings.{no-common, lowest-common}
-use Rattle.prover.proofs.Steps.{inner-closed, inner-due, inner-open}
+use Rattle.prover.proofs.Steps.{inner-closed, pair-small}
 use Rattle.prover.proofs.step.Statement.{statement}
 use Rattle.prover.proofs.step.Tie as tie
 
@@ -17,7 +18,7 @@ small-at : (c : tie.Start) → (c .args .s .leftmask < 2 ^ LETTERS) × (c .args 
 small-at c = omega arith
 
 -- Where the code goes on, the two sides have no letter in common.
-apart-now : (c : tie.Else1) → let a = c .before .before .args in closing (sequentOf (a .nodes .now) (a .items .now) (a .s)) ≡ none
+apart-now : (c : tie.Else1) → let a = c .before .before .args in let S = sequentOf (a .nodes .now) (a .items .now) (a .s) in common (letters (S .on-left)) (letters (S .on-right)) ≡ none
 apart-now c =
     let b = c .before .before in
     let a = b .args in
@@ -35,25 +36,23 @@ step-spec =
     let S = sequentOf (a .nodes .now) (a .items .now) (a .s) in
     let m = masks-state (a .nodes .now) (a .items .now) (a .s) (b .pre .0) in
     let lowest = lowest-common (letters (S .on-left)) (letters (S .on-right)) (a .s .leftmask) (a .s .rightmask) (m Left) (m Right) (small-at b .0) (small-at b .1) (c .if1 .taken) in
-    record { inner = inner-closed (a .nodes .now) (a .items .now) (a .s) (b .pre .0) (a .left) _ lowest; ready = tt })
+    record { inner = inner-closed (a .nodes .now) (a .items .now) (a .s) (b .pre .0) (a .left) _ (ap (λ (o : Option ℕ). either o (twins (S .on-left) (S .on-right))) lowest); ready = tt })
     (λ c κs. search needs)
     (λ c. search needs)
-    (λ c κs.
-    let b = c .before .before .before .before .before .before in
-    let u = c .before .place .given in
-    (b .pre .0, rw (u .1) at (c .before .before .before .first-compound .ensures)))
     (λ c. search needs)
-    (λ c.
-    let b = c .before .before .before .before .before .before .before in
-    let a = b .args in
-    let u = c .before .before .place .given in
-    let found = rw (u .1) at (c .before .before .before .before .first-compound .ensures) in
-    record {
-      inner = c .due-at .ensures .0 ∙ inner-due (a .nodes .now) (a .items .now) (a .s) (b .pre .0) (a .left) (apart-now (c .before .before .before .before .before)) (u .0 .0) (u .0 .1 .0) found;
-      ready = c .due-at .ensures .1;
-    })
-    (λ c.
+    (λ c κs.
     let b = c .before .before .before .before .before in
     let a = b .args in
-    let missing = rw (c .enum-told .given .1) at (c .before .before .first-compound .ensures) in
-    record { inner = inner-open (a .nodes .now) (a .items .now) (a .s) (b .pre .0) (a .left) (apart-now (c .before .before .before)) missing (a .s .leftmask) (masks-state (a .nodes .now) (a .items .now) (a .s) (b .pre .0) Left); ready = tt }))
+    let found = rw (c .enum-told .given .1) at (c .before .before .twins .ensures) in
+    (b .pre .0, b .pre .1, rw (apart-now (c .before .before .before), twins-are (a .nodes .now) (a .items .now) (a .s) (b .pre .0) Neither found)))
+    (λ c.
+    let b = c .before .before .before .before .before .before in
+    let a = b .args in
+    let u = c .before .twins2 .given in
+    let found = rw (u .1) at (c .before .before .before .twins .ensures) in
+    let e = apart-now (c .before .before .before .before) in
+    record {
+      inner = inner-closed (a .nodes .now) (a .items .now) (a .s) (b .pre .0) (a .left) (paired (u .0 .0) (u .0 .1 .0)) (rw (e, twins-are (a .nodes .now) (a .items .now) (a .s) (b .pre .0) (Both (u .0 .0) (u .0 .1 .0)) found));
+      ready = pair-small (a .nodes .now) (a .items .now) (a .s) (b .pre .0) (a .left) (u .0 .0) (u .0 .1 .0) (found .0);
+    })
+    (λ c. search needs))
