@@ -9,7 +9,7 @@ use lib.Bits.{bitOr, or-zero-r}
 use lib.ListN.{length, take, drop, set, length-append, length-set}
 use lib.Seq.{slice, take-suc-set, drop-append-le, length-take-le}
 use Rattle.calculus.specs.Fold.{SUM, Each}
-use Rattle.calculus.specs.Limits.{LETTERS, CONNECTIVES}
+use Rattle.calculus.specs.Limits.{CONNECTIVES}
 use Rattle.calculus.specs.Syntax.{Formula, connectives}
 use Rattle.calculus.proofs.Folds.{fold-append}
 use Rattle.question.specs.Positions.{formulaAt}

@@ -1,6 +1,6 @@
--- The nodes of a formula: its name, and what the nodes tell of it.
+-- The name of a formula, and its node where it is a compound.
 -- Assumes nothing.
-use mathlib.Core.Path.{_≡_, refl, sym, ap, _∙_}
+use mathlib.Core.Path.{_≡_, refl, sym, _∙_}
 use mathlib.Core.List.{List}
 use Prim.Native.Nat.{ℕ, _+_, _-_, _≤_, _<_}
 use native.Mathlib.Omega.{arith}
@@ -10,12 +10,12 @@ use lib.Seq.{getD-set-same, getD-set-other}
 use Rattle.calculus.specs.Limits.{LETTERS, CONNECTIVES}
 use Rattle.calculus.specs.Syntax.{Connective, NOT, two, Formula, letter, neg, join, compound, connectives}
 use Rattle.calculus.specs.Bytes.{CONNECTIVE, code, Lettered}
-use Rattle.question.specs.Positions.{Well, formulaAt, endOf}
-use Rattle.question.proofs.Parts.{LetterAt, At, a-letter, a-compound, at-position, letter-at, first-at, NotAt, not-at, TwoAt, two-at, end-onward}
+use Rattle.question.specs.Positions.{formulaAt, endOf}
+use Rattle.question.proofs.Parts.{At, a-letter, a-compound, at-position, letter-at, first-at, not-at, TwoAt, two-at}
 use Rattle.question.proofs.Readers.{connective-range}
 use Rattle.sequent.specs.Names.{node, Node, nodeOf, Tells, Distinct, firstOf, secondOf}
 use Rattle.sequent.specs.Compounds.{Stands}
-use Rattle.sequent.proofs.Namings.{Read, node-read, command-small}
+use Rattle.sequent.proofs.Namings.{node-read, command-small}
 use Rattle.names.specs.declared.Named.{Named}
 use Rattle.names.specs.Loads.{Nodes, Kept, Noted, Numbers, Numbered}
 
@@ -39,17 +39,18 @@ tells-kept T R n k (join b x y) d h t = (
 
 -- ---- a compound's node
 
--- a connective, names that n nodes tell, and the node of them
+-- w: the node of a connective and of names that n nodes tell
 module _ (k : Connective) (n : ℕ) (small : n ≤ CONNECTIVES) (f g : ℕ) (h : f < LETTERS + n) (i : g < LETTERS + n) (w : ℕ) (e : w ≡ node (code (CONNECTIVE k)) f g) where
-  pub parts-lower : (firstOf w < LETTERS + n) × (secondOf w < LETTERS + n)
+  parts-lower : (firstOf w < LETTERS + n) × (secondOf w < LETTERS + n)
   parts-lower = let r = node-read (code (CONNECTIVE k)) f g w (command-small k) (omega arith) (omega arith) e in (omega (arith, r .first), omega (arith, r .second))
 
-  pub noted-node : (behind : ℕ) (T R : List ℕ) (r : Named) → Noted w behind n T R r → Node R (r .name) (code (CONNECTIVE k)) f g
+  noted-node : (behind : ℕ) (T R : List ℕ) (r : Named) → Noted w behind n T R r → Node R (r .name) (code (CONNECTIVE k)) f g
   noted-node behind T R r t =
       let p = node-read (code (CONNECTIVE k)) f g (nodeOf R (r .name)) (command-small k) (omega arith) (omega arith) (t .held ∙ e) in
       let l = t .nodes .lower (r .name - LETTERS) (omega (arith, t .above, t .below)) in
       record { above = t .above; held = t .held ∙ e; first = omega (arith, l .0, p .first, t .above); second = omega (arith, l .1, p .second, t .above) }
 
+-- w among n nodes, and noted
 module _ (T : List ℕ) (n w i behind : ℕ) (s : Stands T 0 n w i) (h : Nodes T n) where
   pub noted-found : i < n → (d : ℕ) → d ≡ LETTERS + i → Noted w behind n T T (record { name = d; end = behind; next = n })
   noted-found l d e =
@@ -158,33 +159,34 @@ module _ (q : List ℕ) (at n : ℕ) (T : List ℕ) (h : Numbers q at n T) where
         go (two o) f g l = l .0
 
     module _ (f : Named) (R : List ℕ) (a : Numbered q (at + 1) n T R f) where
-      module _ (e : getD q at 0 ≡ 2) where
-        pub not-room : f .next < CONNECTIVES
-        not-room = omega (arith, a .few, less, h .fits)
+      -- NOT
+      pub not-room : f .next < CONNECTIVES
+      not-room = omega (arith, a .few, less, h .fits)
 
-        module _ (w : ℕ) (d : w ≡ node (getD q at 0) (f .name) (f .name)) where
-          pub not-lower : (firstOf w < LETTERS + f .next) × (secondOf w < LETTERS + f .next)
-          not-lower = parts-lower NOT (f .next) (omega (arith, not-room)) (f .name) (f .name) (a .below) (a .below) w (d ∙ rw e)
+      module _ (e : getD q at 0 ≡ 2) (w : ℕ) (d : w ≡ node (getD q at 0) (f .name) (f .name)) where
+        pub not-lower : (firstOf w < LETTERS + f .next) × (secondOf w < LETTERS + f .next)
+        not-lower = parts-lower NOT (f .next) (omega (arith, not-room)) (f .name) (f .name) (a .below) (a .below) w (d ∙ rw e)
 
-          pub number-not : (P : List ℕ) (r : Named) → Noted w (f .end) (f .next) R P r → Numbered q at n T P r
-          number-not P r t =
-              let s = not-at q at (h .well) byte e in
-              let x = formulaAt q (at + 1) in
-              record {
-                tells = rw (s .stands) (
-                  f .name,
-                  noted-node NOT (f .next) (omega (arith, not-room)) (f .name) (f .name) (a .below) (a .below) w (d ∙ rw e) (f .end) R P r t,
-                  tells-kept R P (f .next) (t .kept) x (f .name) (a .below) (a .tells),
-                );
-                below = t .below;
-                end = t .end ∙ a .end ∙ sym (s .ends);
-                more = omega (arith, a .more, t .more);
-                few = omega (arith, a .few, t .few, less);
-                nodes = t .nodes;
-                kept = λ k i. t .kept k (omega (arith, a .more)) ∙ a .kept k i;
-                size = t .size ∙ a .size;
-              }
+        pub number-not : (P : List ℕ) (r : Named) → Noted w (f .end) (f .next) R P r → Numbered q at n T P r
+        number-not P r t =
+            let s = not-at q at (h .well) byte e in
+            let x = formulaAt q (at + 1) in
+            record {
+              tells = rw (s .stands) (
+                f .name,
+                noted-node NOT (f .next) (omega (arith, not-room)) (f .name) (f .name) (a .below) (a .below) w (d ∙ rw e) (f .end) R P r t,
+                tells-kept R P (f .next) (t .kept) x (f .name) (a .below) (a .tells),
+              );
+              below = t .below;
+              end = t .end ∙ a .end ∙ sym (s .ends);
+              more = omega (arith, a .more, t .more);
+              few = omega (arith, a .few, t .few, less);
+              nodes = t .nodes;
+              kept = λ k i. t .kept k (omega (arith, a .more)) ∙ a .kept k i;
+              size = t .size ∙ a .size;
+            }
 
+      -- a connective of two
       module _ (e : getD q at 0 ≡ 2 → ⊥) where
         second : TwoAt q at
         second = two-at q at (h .well) byte e

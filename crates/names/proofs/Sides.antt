@@ -11,7 +11,7 @@ use lib.Seq.{slice, slice-empty, take-length, take-take, take-add, length-take-l
 use Rattle.calculus.specs.declared.Side.{Side}
 use Rattle.calculus.specs.declared.Side.the-variants.{Left, Right}
 use Rattle.calculus.specs.Fold.{fold, SUM, Each}
-use Rattle.calculus.specs.Limits.{ROOM, FORMULAS, CONNECTIVES}
+use Rattle.calculus.specs.Limits.{FORMULAS, CONNECTIVES}
 use Rattle.calculus.specs.Syntax.{Formula, Sequent, on-side, over, connectives, size}
 use Rattle.calculus.specs.Bytes.{Lettered, Within, encode, encodeAll, bytes, bytesAll, question, sideStart, startOf}
 use Rattle.calculus.specs.Reading.{accepted, reading}

@@ -8,7 +8,7 @@ use Rattle.calculus.specs.declared.Side.{Side}
 use Rattle.calculus.specs.declared.Side.the-variants.{Left, Right}
 use Rattle.calculus.specs.Fold.{fold, SUM}
 use Rattle.calculus.specs.Limits.{ROOM, CONNECTIVES, LETTERS}
-use Rattle.calculus.specs.Syntax.{Formula, Sequent, on-side, connectives}
+use Rattle.calculus.specs.Syntax.{Formula, Sequent, connectives}
 use Rattle.calculus.specs.Bytes.{Lettered}
 use Rattle.question.specs.Positions.{Well, formulaAt, endOf}
 use Rattle.sequent.specs.Names.{nodeOf, Tells, Distinct, firstOf, secondOf}

@@ -63,7 +63,7 @@ pub +number-parts+part-spec : {M : Type 1} → statement M
     let f = c .before .before .before .part in
     let e = c .before .before .if1 .taken in
     let l = not-lower (a .q .now) (a .at) (a .n) (a .nodes .now) h (s .pre .1 .1) (f .result) (f .last .1 .0) (f .ensures) e (c .node .result) (c .node .ensures) in
-    (not-room (a .q .now) (a .at) (a .n) (a .nodes .now) h (s .pre .1 .1) (f .result) (f .last .1 .0) (f .ensures) e, f .ensures .size ∙ h .size, f .ensures .nodes, l .0, l .1))
+    (not-room (a .q .now) (a .at) (a .n) (a .nodes .now) h (s .pre .1 .1) (f .result) (f .last .1 .0) (f .ensures), f .ensures .size ∙ h .size, f .ensures .nodes, l .0, l .1))
     (λ c.
     let s = c .before .before .before .before .before .before .before .before in let a = s .args in let h = s .pre .1 .0 in
     let f = c .before .before .before .before .part in

@@ -1,6 +1,5 @@
 -- The loop's invariant: the formulas up to place i have come. The measure is those that are left.
-use mathlib.Core.Path.{_≡_}
-use Prim.Native.Nat.{_+_, _-_, _≤_, _<_}
+use Prim.Native.Nat.{_-_, _≤_}
 use native.Mathlib.Omega.{arith}
 use Rattle.calculus.specs.declared.Side.{Side}
 use Rattle.calculus.specs.Bytes.{question}
