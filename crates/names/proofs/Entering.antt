@@ -1,117 +1,93 @@
--- A formula more: its name comes to the end of a side. And what names stand for.
+-- Names and the formulas that they stand for, and a formula more.
 -- Assumes nothing.
 use mathlib.Core.Path.{_≡_, refl, sym, ap, _∙_, subst}
 use mathlib.Core.List.{List, [], _∷_, _++_, map}
 use Prim.Native.Nat.{ℕ, _+_, _≤_, _<_}
-use native.Mathlib.Nat.{le-refl}
+use native.Mathlib.Numerals.{add-one}
 use native.Mathlib.Omega.{arith}
 use lib.Bits.{bitOr, or-zero-r}
-use lib.ListN.{length, getD}
-use Rattle.calculus.specs.declared.Side.{Side}
-use Rattle.calculus.specs.declared.Side.the-variants.{Left, Right}
+use lib.ListN.{length, take, drop, set, length-append, length-set}
+use lib.Seq.{slice, take-suc-set, drop-append-le, length-take-le}
 use Rattle.calculus.specs.Fold.{SUM, Each}
 use Rattle.calculus.specs.Limits.{CONNECTIVES}
-use Rattle.calculus.specs.Syntax.{other, Formula, Seq, Sequent, on-side, over, connectives, c}
+use Rattle.calculus.specs.Syntax.{Formula, connectives}
 use Rattle.calculus.proofs.Folds.{fold-append}
-use Rattle.sequent.specs.declared.Running.{Running}
-use Rattle.sequent.specs.Names.{name, Told, formulaIn, Known}
-use Rattle.sequent.specs.View.{view, maskOf, bitOf, lettersOf, Masked, entered, Pushed}
+use Rattle.question.specs.Positions.{formulaAt}
+use Rattle.sequent.specs.Names.{formulaIn, Known}
+use Rattle.sequent.specs.View.{bitsBy, bitOf, compoundBit}
 use Rattle.sequent.proofs.Namings.{told-formula}
-use Rattle.sequent.proofs.Letters.{letters-append}
+use Rattle.sequent.proofs.Letters.{bits-append}
+use Rattle.names.specs.declared.Named.{Named}
 use Rattle.names.specs.declared.Loaded.{Loaded}
-use Rattle.names.specs.Loads.{Names, NamesAll, Loads}
-use Rattle.names.proofs.Numbering.{told-same}
+use Rattle.names.specs.Loads.{Kept, Numbered, NamesAll, Loads, Enters}
+use Rattle.names.proofs.Numbering.{tells-kept}
 
 -- ---- names of formulas
 
-pub names-length : (T : List ℕ) (e : ℕ) (ds : List ℕ) (xs : List Formula) → NamesAll T e ds xs → length ds ≡ length xs
-names-length T e [] [] h = refl
-names-length T e [] (x ∷ xs) h = absurd h
-names-length T e (d ∷ ds) [] h = absurd h
-names-length T e (d ∷ ds) (x ∷ xs) h = omega (arith, names-length T e ds xs (h .1))
+module _ (T : List ℕ) (n : ℕ) where
+  names-append : (ds es : List ℕ) (xs ys : List Formula) → NamesAll T n ds xs → NamesAll T n es ys → NamesAll T n (ds ++ es) (xs ++ ys)
+  names-append [] es [] ys h k = k
+  names-append [] es (x ∷ xs) ys h k = absurd h
+  names-append (d ∷ ds) es [] ys h k = absurd h
+  names-append (d ∷ ds) es (x ∷ xs) ys h k = (h .0, h .1, names-append ds es xs ys (h .2) k)
 
-names-append : (T : List ℕ) (e : ℕ) (ds : List ℕ) (xs : List Formula) (d : ℕ) (x : Formula) → NamesAll T e ds xs → Names T e d x → NamesAll T e (ds ++ (d ∷ [])) (xs ++ (x ∷ []))
-names-append T e [] [] d x h k = (k, tt)
-names-append T e [] (y ∷ xs) d x h k = absurd h
-names-append T e (b ∷ ds) [] d x h k = absurd h
-names-append T e (b ∷ ds) (y ∷ xs) d x h k = (h .0, names-append T e ds xs d x (h .1) k)
+  pub names-split : (ds es : List ℕ) (xs ys : List Formula) → length ds ≡ length xs → NamesAll T n (ds ++ es) (xs ++ ys) → NamesAll T n ds xs × NamesAll T n es ys
+  names-split [] es [] ys e h = (tt, h)
+  names-split [] es (x ∷ xs) ys e h = absurd (omega arith)
+  names-split (d ∷ ds) es [] ys e h = absurd (omega arith)
+  names-split (d ∷ ds) es (x ∷ xs) ys e h = let k = names-split ds es xs ys (omega arith) (h .2) in ((h .0, h .1, k .0), k .1)
 
--- nodes that are as they were below e name the same
-names-same : (T R : List ℕ) (e b : ℕ) → e ≤ b → ((k : ℕ) → k < e → getD R k 0 ≡ getD T k 0) → (ds : List ℕ) (xs : List Formula) → NamesAll T e ds xs → NamesAll R b ds xs
-names-same T R e b l k [] [] h = tt
-names-same T R e b l k [] (x ∷ xs) h = absurd h
-names-same T R e b l k (d ∷ ds) [] h = absurd h
-names-same T R e b l k (d ∷ ds) (x ∷ xs) h =
-    let a = h .0 in (
-      record {
-        number = a .number;
-        named = a .named;
-        told = told-same T R (a .number) x (λ j i m. k j (omega (arith, a .inside))) (a .told);
-        inside = omega (arith, a .inside);
-      },
-      names-same T R e b l k ds xs (h .1),
-    )
-
-module _ (T : List ℕ) (e : ℕ) (inside : e ≤ length T) where
-  pub names-known : (ds : List ℕ) (xs : List Formula) → NamesAll T e ds xs → Each (Known T) ds
+  pub names-known : (ds : List ℕ) (xs : List Formula) → NamesAll T n ds xs → Each (Known T n) ds
   names-known [] [] h = tt
   names-known [] (x ∷ xs) h = absurd h
   names-known (d ∷ ds) [] h = absurd h
-  names-known (d ∷ ds) (x ∷ xs) h =
-      let a = h .0 in
-      (record { number = a .number; formula = x; named = a .named; told = a .told; inside = omega (arith, a .inside) }, names-known ds xs (h .1))
+  names-known (d ∷ ds) (x ∷ xs) h = (record { formula = x; tells = h .0; below = h .1 }, names-known ds xs (h .2))
 
-  pub names-formulas : length T ≡ CONNECTIVES → (ds : List ℕ) (xs : List Formula) → NamesAll T e ds xs → map (formulaIn T) ds ≡ xs
-  names-formulas f [] [] h = refl
-  names-formulas f [] (x ∷ xs) h = absurd h
-  names-formulas f (d ∷ ds) [] h = absurd h
-  names-formulas f (d ∷ ds) (x ∷ xs) h =
-      let a = h .0 in
-      let p : formulaIn T d ≡ x = ap (formulaIn T) (a .named) ∙ told-formula T f (a .number) x (a .told) (omega (arith, a .inside)) in
-      λ j. p j ∷ names-formulas f ds xs (h .1) j
+  pub names-formulas : length T ≡ CONNECTIVES → n ≤ CONNECTIVES → (ds : List ℕ) (xs : List Formula) → NamesAll T n ds xs → map (formulaIn T) ds ≡ xs
+  names-formulas f l [] [] h = refl
+  names-formulas f l [] (x ∷ xs) h = absurd h
+  names-formulas f l (d ∷ ds) [] h = absurd h
+  names-formulas f l (d ∷ ds) (x ∷ xs) h =
+      let p = told-formula T f d x (h .0) (omega (arith, h .1)) in
+      λ j. p j ∷ names-formulas f l ds xs (h .2) j
+
+-- nodes that stay tell the same
+names-kept : (T R : List ℕ) (n m : ℕ) → n ≤ m → Kept n T R → (ds : List ℕ) (xs : List Formula) → NamesAll T n ds xs → NamesAll R m ds xs
+names-kept T R n m l k [] [] h = tt
+names-kept T R n m l k [] (x ∷ xs) h = absurd h
+names-kept T R n m l k (d ∷ ds) [] h = absurd h
+names-kept T R n m l k (d ∷ ds) (x ∷ xs) h = (tells-kept T R n k x d (h .1) (h .0), omega (arith, h .1), names-kept T R n m l k ds xs (h .2))
 
 -- ---- a formula more
 
-entered-count : (f : Formula → ℕ) (t : Side) (x : Formula) (S : Sequent) → over SUM (λ s. f) (entered t x S) ≡ over SUM (λ s. f) S + f x
-entered-count f Left x S = omega (arith, fold-append SUM f (S .on-left) (x ∷ []))
-entered-count f Right x S = omega (arith, fold-append SUM f (S .on-right) (x ∷ []))
+more-bits : (β : ℕ → ℕ) (d m : ℕ) (ds es : List ℕ) → m ≡ bitsBy β ds → es ≡ ds ++ (d ∷ []) → bitOr m (β d) ≡ bitsBy β es
+more-bits β d m ds es h e = rw (h, e, bits-append β ds (d ∷ []), or-zero-r (β d))
 
-entered-names : (T : List ℕ) (e d : ℕ) (x : Formula) (N : Seq ℕ) (S : Sequent) → ((u : Side) → NamesAll T e (on-side u N) (on-side u S)) → Names T e d x
-    → (t u : Side) → NamesAll T e (on-side u (entered t d N)) (on-side u (entered t x S))
-entered-names T e d x N S h k Left Left = names-append T e (N .on-left) (S .on-left) d x (h Left) k
-entered-names T e d x N S h k Left Right = h Right
-entered-names T e d x N S h k Right Left = h Left
-entered-names T e d x N S h k Right Right = names-append T e (N .on-right) (S .on-right) d x (h Right) k
+module _ (q T R items : List ℕ) (first : ℕ) (l : Loaded) (xs : List Formula) (h : Loads T items first l xs) (e : Enters q l xs) (f : Named) (t : Numbered q (l .end) (l .next) T R f) where
+  inside : l .places < length items
+  inside = omega (arith, h .count, h .room, e .room)
 
-pushed-masks : (t : Side) (d : ℕ) (s r : Running) (old new : List ℕ) → Masked s old → Pushed t d s old new r → Masked r new
-pushed-masks t d s r old new m p u = go t u (p .mask) (p .aside) ∙ ap (λ (N : Seq ℕ). lettersOf (on-side u N)) (sym (p .held))
-  where
-    more : (n : ℕ) (ds : List ℕ) → n ≡ lettersOf ds → bitOr n (bitOf d) ≡ lettersOf (ds ++ (d ∷ []))
-    more n ds e = rw (e, letters-append ds (d ∷ []), or-zero-r (bitOf d))
+  take-more : take (l .places + 1) (set items (l .places) (f .name)) ≡ take (l .places) items ++ (f .name ∷ [])
+  take-more = rw (add-one (l .places)) (take-suc-set items (l .places) (f .name) inside)
 
-    go : (t u : Side) → maskOf t r ≡ bitOr (maskOf t s) (bitOf d) → maskOf (other t) r ≡ maskOf (other t) s → maskOf u r ≡ lettersOf (on-side u (entered t d (view s old)))
-    go Left Left e o = e ∙ more (s .leftmask) (view s old .on-left) (m Left)
-    go Left Right e o = o ∙ m Right
-    go Right Left e o = o ∙ m Left
-    go Right Right e o = e ∙ more (s .rightmask) (view s old .on-right) (m Right)
+  slice-more : slice first (l .places + 1) (set items (l .places) (f .name)) ≡ slice first (l .places) items ++ (f .name ∷ [])
+  slice-more =
+      ap (drop first) take-more ∙ drop-append-le first (take (l .places) items) (f .name ∷ []) (omega (arith, h .inside, length-take-le (l .places) items (omega (arith, inside))))
 
-module _ (T R items new : List ℕ) (l : Loaded) (S : Sequent) (h : Loads T items l S) (x : Formula) (told : Told R (l .next) x) (kept : (k : ℕ) → k < l .next → getD R k 0 ≡ getD T k 0)
-    (nodes : length R ≡ length T) (fits : c S + connectives x ≤ CONNECTIVES) (end : ℕ) where
-  pub enter-by : (t : Side) (r : Running) → Pushed t (name (l .next) x) (l .running) items new r
-      → Loads R new (record { running = r; end = end; next = l .next + connectives x }) (entered t x S)
-  enter-by t r p =
-      let e = l .next + connectives x in
-      let d = name (l .next) x in
-      let a : (u : Side) → NamesAll R e (on-side u (view (l .running) items)) (on-side u S)
-      = λ u. names-same T R (l .next) e (omega arith) kept (on-side u (view (l .running) items)) (on-side u S) (h .names u) in
-      let b : Names R e d x = record { number = l .next; named = refl; told = told; inside = le-refl e } in
-      let n = entered-count connectives t x S in
+  pub entered : (a b : ℕ) → a ≡ bitOf (f .name) → b ≡ compoundBit (f .name)
+      → Loads R (set items (l .places) (f .name)) first (record { places = l .places + 1; mask = bitOr (l .mask) a; set = bitOr (l .set) b; end = f .end; next = f .next }) (xs ++ (formulaAt q (l .end) ∷ []))
+  entered a b i j =
+      let x = formulaAt q (l .end) in
+      let k = names-kept T R (l .next) (f .next) (t .more) (t .kept) (take (l .places) items) xs (h .names) in
+      let n = names-append R (f .next) (take (l .places) items) (f .name ∷ []) xs (x ∷ []) k (t .tells, t .below, tt) in
       record {
-        nodes = nodes ∙ h .nodes;
-        places = p .places ∙ h .places;
-        next = omega (arith, h .next, n);
-        few = omega (arith, n);
-        count = p .counted ∙ omega (arith, h .count, entered-count (λ y. 1) t x S);
-        names = λ u. subst (λ (N : Seq ℕ). NamesAll R e (on-side u N) (on-side u (entered t x S))) (sym (p .held)) (entered-names R e d x (view (l .running) items) S a b t u);
-        masks = pushed-masks t d (l .running) r items new (h .masks) p;
+        size = t .size ∙ h .size;
+        room = length-set items (l .places) (f .name) ∙ h .room;
+        nodes = t .nodes;
+        few = omega (arith, h .few, t .few, fold-append SUM connectives xs (x ∷ []));
+        count = omega (arith, h .count, length-append xs (x ∷ []));
+        names = subst (λ (ds : List ℕ). NamesAll R (f .next) ds (xs ++ (x ∷ []))) (sym take-more) n;
+        mask = rw i (more-bits bitOf (f .name) (l .mask) (slice first (l .places) items) (slice first (l .places + 1) (set items (l .places) (f .name))) (h .mask) slice-more);
+        set = rw j (more-bits compoundBit (f .name) (l .set) (slice first (l .places) items) (slice first (l .places + 1) (set items (l .places) (f .name))) (h .set) slice-more);
+        inside = omega (arith, h .inside);
       }

@@ -1,170 +1,229 @@
--- The nodes of a formula: its connectives numbered one after the other.
+-- The name of a formula, and its node where it is a compound.
 -- Assumes nothing.
-use mathlib.Core.Path.{_≡_, refl, sym, ap, _∙_}
+use mathlib.Core.Path.{_≡_, refl, sym, _∙_}
 use mathlib.Core.List.{List}
-use Prim.Native.Nat.{ℕ, _+_, _≤_, _<_}
-use native.Mathlib.Nat.{add-zero, le-refl}
+use Prim.Native.Nat.{ℕ, _+_, _-_, _≤_, _<_}
 use native.Mathlib.Omega.{arith}
+use native.Mathlib.Decide.{decLt}
 use lib.ListN.{length, getD, set, length-set}
 use lib.Seq.{getD-set-same, getD-set-other}
 use Rattle.calculus.specs.Limits.{LETTERS, CONNECTIVES}
-use Rattle.calculus.specs.Syntax.{Binary, Connective, NOT, two, Formula, letter, neg, join, Compound, compound, connectives, c}
+use Rattle.calculus.specs.Syntax.{Connective, NOT, two, Formula, letter, neg, join, compound, connectives}
 use Rattle.calculus.specs.Bytes.{CONNECTIVE, code, Lettered}
-use Rattle.question.specs.Positions.{Well, formulaAt, endOf}
-use Rattle.question.proofs.Parts.{LetterAt, PartsAt, NotBehind, SecondAt, At, a-letter, a-compound, at-position, is-not, is-two, end-onward}
+use Rattle.question.specs.Positions.{formulaAt, endOf}
+use Rattle.question.proofs.Parts.{At, a-letter, a-compound, at-position, letter-at, first-at, not-at, TwoAt, two-at}
+use Rattle.question.proofs.Readers.{connective-range}
+use Rattle.sequent.specs.Names.{node, Node, nodeOf, Tells, Distinct, firstOf, secondOf}
+use Rattle.sequent.specs.Compounds.{Stands}
+use Rattle.sequent.proofs.Namings.{node-read, command-small}
 use Rattle.names.specs.declared.Named.{Named}
-use Rattle.sequent.specs.Names.{name, node, Told}
-use Rattle.names.specs.Loads.{named, Numbered}
+use Rattle.names.specs.Loads.{Nodes, Kept, Noted, Numbers, Numbered}
 
--- ---- a compound at a position
+-- ---- nodes that stay
 
-letter-here : (q : List ℕ) (p : ℕ) → Well q p → getD q p 0 ≡ 1 → LetterAt q p
-letter-here q p h e = go (at-position q p h)
-  where
-    go : At q p → LetterAt q p
-    go (a-letter a) = a
-    go (a-compound x a) = absurd (omega (arith, a .byte, Rattle.question.proofs.Readers.connective-range (x .connective)))
+node-kept : (T R : List ℕ) (n : ℕ) → Kept n T R → (d b f g : ℕ) → d < LETTERS + n → Node T d b f g → Node R d b f g
+node-kept T R n k d b f g h t =
+    record { above = t .above; held = k (d - LETTERS) (omega (arith, t .above)) ∙ t .held; first = t .first; second = t .second }
 
-module _ (q : List ℕ) (p : ℕ) (h : Well q p) (n : getD q p 0 ≡ 1 → ⊥) where
-  compound-here : (x : Compound) × PartsAt q p x
-  compound-here = go (at-position q p h)
-    where
-      go : At q p → (x : Compound) × PartsAt q p x
-      go (a-letter a) = absurd (n (a .byte))
-      go (a-compound x a) = (x, a)
-
-  -- its first part
-  pub record FirstHere : Type 0 where
-    pub well : Well q (p + 1)
-    pub less : connectives (formulaAt q (p + 1)) + 1 ≤ connectives (formulaAt q p)
-    pub lettered : Lettered (formulaAt q p) → Lettered (formulaAt q (p + 1))
-
-  pub first-here : FirstHere
-  first-here =
-      let x = compound-here .0 in
-      let a = compound-here .1 in
-      record {
-        well = a .first-well;
-        less = rw (a .first, a .stands) (less (x .connective) (x .f) (x .g));
-        lettered = λ l. rw (a .first) (lettered (x .connective) (x .f) (x .g) (rw (a .stands) at l));
-      }
-    where
-      less : (k : Connective) (f g : Formula) → connectives f + 1 ≤ connectives (compound k f g)
-      less NOT f g = omega arith
-      less (two o) f g = omega arith
-
-      lettered : (k : Connective) (f g : Formula) → Lettered (compound k f g) → Lettered f
-      lettered NOT f g l = l
-      lettered (two o) f g l = l .0
-
-  pub record NotHere : Type 0 where
-    pub stands : formulaAt q p ≡ neg (formulaAt q (p + 1))
-    pub ends : endOf q (p + 1) ≡ endOf q p
-
-  pub not-here : getD q p 0 ≡ 2 → NotHere
-  not-here e =
-      let x = compound-here .0 in
-      let a = compound-here .1 in
-      let k : x .connective ≡ NOT = is-not (x .connective) (sym (a .byte) ∙ e) in
-      let b : NotBehind q p (x .f) (x .g) = rw k at (a .behind) in
-      let s : formulaAt q p ≡ neg (x .f) = rw k at (a .stands) in
-      record { stands = rw (a .first) s; ends = b .ends }
-
-  pub record TwoHere : Type 0 where
-    pub o : Binary
-    pub byte : getD q p 0 ≡ code (CONNECTIVE (two o))
-    pub well : Well q (endOf q (p + 1))
-    pub stands : formulaAt q p ≡ join o (formulaAt q (p + 1)) (formulaAt q (endOf q (p + 1)))
-    pub ends : endOf q (endOf q (p + 1)) ≡ endOf q p
-
-  pub two-here : (getD q p 0 ≡ 2 → ⊥) → TwoHere
-  two-here m =
-      let x = compound-here .0 in
-      let a = compound-here .1 in
-      let t = is-two (x .connective) (λ e. m (a .byte ∙ e)) in
-      let b : SecondAt q p (x .g) = rw (t .1) at (a .behind) in
-      let s : formulaAt q p ≡ join (t .0) (x .f) (x .g) = rw (t .1) at (a .stands) in
-      record { o = t .0; byte = rw (t .1) at (a .byte); well = b .well; stands = rw (b .stands, a .first) s; ends = b .ends }
-
--- ---- its nodes
-
-pub told-same : (T R : List ℕ) (n : ℕ) (x : Formula) → ((k : ℕ) → n ≤ k → k < n + connectives x → getD R k 0 ≡ getD T k 0) → Told T n x → Told R n x
-told-same T R n (letter k) h t = t
-told-same T R n (neg x) h t = (h n (le-refl n) (omega arith) ∙ t .0, told-same T R (n + 1) x (λ k i j. h k (omega arith) (omega arith)) (t .1))
-told-same T R n (join o x y) h t = (
-  h n (le-refl n) (omega arith) ∙ t .0,
-  told-same T R (n + 1) x (λ k i j. h k (omega arith) (omega arith)) (t .1),
-  told-same T R (n + 1 + connectives x) y (λ k i j. h k (omega arith) (omega arith)) (t .2),
+pub tells-kept : (T R : List ℕ) (n : ℕ) → Kept n T R → (x : Formula) (d : ℕ) → d < LETTERS + n → Tells T d x → Tells R d x
+tells-kept T R n k (letter j) d h t = t
+tells-kept T R n k (neg x) d h t =
+    (t .0, node-kept T R n k d (code (CONNECTIVE NOT)) (t .0) (t .0) h (t .1), tells-kept T R n k x (t .0) (omega (arith, t .1 .first)) (t .2))
+tells-kept T R n k (join b x y) d h t = (
+  t .0,
+  t .1,
+  node-kept T R n k d (code (CONNECTIVE (two b))) (t .0) (t .1) h (t .2),
+  tells-kept T R n k x (t .0) (omega (arith, t .2 .first)) (t .3),
+  tells-kept T R n k y (t .1) (omega (arith, t .2 .second)) (t .4),
 )
 
-module _ (q : List ℕ) (at n : ℕ) (h : Well q at) (T : List ℕ) where
-  pub number-letter : getD q at 0 ≡ 1 → Lettered (formulaAt q at) → (record { name = getD q (at + 1) 0; end = at + 2; next = n } ≡ named q at n) × Numbered q at n T T
-  number-letter e l =
-      let a = letter-here q at h e in (
-        (λ i. record { name = sym (ap (name n) (a .stands)) i; end = sym (a .ends) i; next = (sym (add-zero n) ∙ sym (ap (λ (x : Formula). n + connectives x) (a .stands))) i }),
-        record { told = rw (a .stands) (rw (a .stands) at l); kept = λ k i. refl; size = refl },
-      )
+-- ---- a compound's node
 
-  module _ (u : getD q at 0 ≡ 1 → ⊥) (f : Named) (e : f ≡ named q (at + 1) (n + 1)) (R : List ℕ) (a : Numbered q (at + 1) (n + 1) T R) (b m : ℕ) (i : b ≡ getD q at 0) (j : m ≡ LETTERS + n) where
-    pub number-not : b ≡ 2 → n < length R
-        → (record { name = m; end = f .end; next = f .next } ≡ named q at n) × Numbered q at n T (set R n (node b (f .name) (f .name)))
-    number-not o l =
-        let d = not-here q at h u (sym i ∙ o) in
-        let x = formulaAt q (at + 1) in
-        let w = node b (f .name) (f .name) in
-        let y : f .name ≡ name (n + 1) x = ap (λ (v : Named). v .name) e in
-        let p : n + 1 + connectives x ≡ n + connectives (neg x) = omega arith in (
-          (λ k. record {
-            name = (j ∙ sym (ap (name n) (d .stands))) k;
-            end = (ap (λ (v : Named). v .end) e ∙ d .ends) k;
-            next = (ap (λ (v : Named). v .next) e ∙ p ∙ sym (ap (λ (z : Formula). n + connectives z) (d .stands))) k;
-          }),
-          record {
-            told = rw (d .stands) (
-              getD-set-same R n w 0 l ∙ rw (y, o),
-              told-same R (set R n w) (n + 1) x (λ k s t. getD-set-other R n k w 0 (λ z. omega arith)) (a .told),
-            );
-            kept = λ k s. getD-set-other R n k w 0 (λ z. omega arith) ∙ a .kept k (omega arith);
-            size = simp length-set (a .size);
-          },
-        )
+-- w: the node of a connective and of names that n nodes tell
+module _ (k : Connective) (n : ℕ) (small : n ≤ CONNECTIVES) (f g : ℕ) (h : f < LETTERS + n) (i : g < LETTERS + n) (w : ℕ) (e : w ≡ node (code (CONNECTIVE k)) f g) where
+  parts-lower : (firstOf w < LETTERS + n) × (secondOf w < LETTERS + n)
+  parts-lower = let r = node-read (code (CONNECTIVE k)) f g w (command-small k) (omega arith) (omega arith) e in (omega (arith, r .first), omega (arith, r .second))
 
-    pub number-two : (b ≡ 2 → ⊥) → (g : Named) → g ≡ named q (f .end) (f .next) → (P : List ℕ) → Numbered q (f .end) (f .next) R P → n < length P
-        → (record { name = m; end = g .end; next = g .next } ≡ named q at n) × Numbered q at n T (set P n (node b (f .name) (g .name)))
-    number-two o g v P r l =
-        let d = two-here q at h u (λ z. o (i ∙ z)) in
-        let x = formulaAt q (at + 1) in
-        let y = formulaAt q (endOf q (at + 1)) in
-        let w = node b (f .name) (g .name) in
-        let s : f .name ≡ name (n + 1) x = ap (λ (z : Named). z .name) e in
-        let e₁ : f .end ≡ endOf q (at + 1) = ap (λ (z : Named). z .end) e in
-        let e₂ : f .next ≡ n + 1 + connectives x = ap (λ (z : Named). z .next) e in
-        let v′ : g ≡ named q (endOf q (at + 1)) (n + 1 + connectives x) = v ∙ rw (e₁, e₂) in
-        let r′ : Numbered q (endOf q (at + 1)) (n + 1 + connectives x) R P = rw (e₁, e₂) at r in
-        let p : n + 1 + connectives x + connectives y ≡ n + connectives (join (d .o) x y) = omega arith in
-        let t : g .name ≡ name (n + 1 + connectives x) y = ap (λ (z : Named). z .name) v′ in
-        let c : b ≡ code (CONNECTIVE (two (d .o))) = i ∙ d .byte in (
-          (λ k. record {
-            name = (j ∙ sym (ap (name n) (d .stands))) k;
-            end = (ap (λ (z : Named). z .end) v′ ∙ d .ends) k;
-            next = (ap (λ (z : Named). z .next) v′ ∙ p ∙ sym (ap (λ (z : Formula). n + connectives z) (d .stands))) k;
-          }),
-          record {
-            told = rw (d .stands) (
-              getD-set-same P n w 0 l ∙ (λ k. node (c k) (s k) (t k)),
-              told-same R (set P n w) (n + 1) x (λ k z z′. getD-set-other P n k w 0 (λ z″. omega arith) ∙ r′ .kept k (omega arith)) (a .told),
-              told-same P (set P n w) (n + 1 + connectives x) y (λ k z z′. getD-set-other P n k w 0 (λ z″. omega arith)) (r′ .told),
-            );
-            kept = λ k z. getD-set-other P n k w 0 (λ z″. omega arith) ∙ r′ .kept k (omega arith) ∙ a .kept k (omega arith);
-            size = simp length-set (r′ .size ∙ a .size);
-          },
-        )
+  noted-node : (behind : ℕ) (T R : List ℕ) (r : Named) → Noted w behind n T R r → Node R (r .name) (code (CONNECTIVE k)) f g
+  noted-node behind T R r t =
+      let p = node-read (code (CONNECTIVE k)) f g (nodeOf R (r .name)) (command-small k) (omega arith) (omega arith) (t .held ∙ e) in
+      let l = t .nodes .lower (r .name - LETTERS) (omega (arith, t .above, t .below)) in
+      record { above = t .above; held = t .held ∙ e; first = omega (arith, l .0, p .first, t .above); second = omega (arith, l .1, p .second, t .above) }
 
--- the second part can be numbered after the first
-pub second-enters : (q : List ℕ) (at n : ℕ) (h : Well q at) → (getD q at 0 ≡ 1 → ⊥) → (getD q at 0 ≡ 2 → ⊥) → (f : Named) → f ≡ named q (at + 1) (n + 1)
-    → Lettered (formulaAt q at) → n + connectives (formulaAt q at) ≤ CONNECTIVES
-    → Well q (f .end) × Lettered (formulaAt q (f .end)) × (f .next + connectives (formulaAt q (f .end)) ≤ CONNECTIVES) × (at < f .end)
-second-enters q at n h u o f e l k =
-    let d = two-here q at h u o in
-    let m : Lettered (join (d .o) (formulaAt q (at + 1)) (formulaAt q (endOf q (at + 1)))) = rw (d .stands) at l in
-    rw e (d .well, m .1, omega (arith, ap connectives (d .stands)), omega (arith, end-onward q (at + 1)))
+-- w among n nodes, and noted
+module _ (T : List ℕ) (n w i behind : ℕ) (s : Stands T 0 n w i) (h : Nodes T n) where
+  pub noted-found : i < n → (d : ℕ) → d ≡ LETTERS + i → Noted w behind n T T (record { name = d; end = behind; next = n })
+  noted-found l d e =
+      let z : d - LETTERS ≡ i = omega arith in
+      record {
+        above = omega arith;
+        below = omega arith;
+        held = rw z (s .here l);
+        end = refl;
+        more = omega arith;
+        few = omega arith;
+        nodes = h;
+        kept = λ k j. refl;
+        size = refl;
+      }
+
+  module _ (m : n ≤ i) (room : n < length T) where
+    old : (k : ℕ) → k < n → getD (set T n w) k 0 ≡ getD T k 0
+    old k j = getD-set-other T n k w 0 (λ z. omega arith)
+
+    new : getD (set T n w) n 0 ≡ w
+    new = getD-set-same T n w 0 room
+
+    -- no node before it is equal
+    differs : (k : ℕ) → k < n → getD (set T n w) k 0 ≡ getD (set T n w) n 0 → ⊥
+    differs k j e =
+        let l : k < i = omega arith in
+        s .first k (omega arith) l (sym (old k j) ∙ e ∙ new)
+
+    distinct-more : Distinct (set T n w) (n + 1)
+    distinct-more a b p q e = go (decLt a n) (decLt b n)
+      where
+        go : Dec (a < n) → Dec (b < n) → a ≡ b
+        go (yes j) (yes k) = h .distinct a b j k (sym (old a j) ∙ e ∙ old b k)
+        go (yes j) (no k) = let z : b ≡ n = omega arith in absurd (differs a j (rw z at e))
+        go (no j) (yes k) = let z : a ≡ n = omega arith in absurd (differs b k (sym (rw z at e)))
+        go (no j) (no k) = omega arith
+
+    pub noted-fresh : firstOf w < LETTERS + n → secondOf w < LETTERS + n → (d : ℕ) → d ≡ LETTERS + n
+        → Noted w behind n T (set T n w) (record { name = d; end = behind; next = n + 1 })
+    noted-fresh f g d e =
+        let z : d - LETTERS ≡ n = omega arith in
+        record {
+          above = omega arith;
+          below = omega arith;
+          held = rw z new;
+          end = refl;
+          more = omega arith;
+          few = omega arith;
+          nodes = record { distinct = distinct-more; lower = λ j k. go j k (decLt j n) };
+          kept = old;
+          size = length-set T n w;
+        }
+      where
+        go : (j : ℕ) → j < n + 1 → Dec (j < n) → (firstOf (getD (set T n w) j 0) < LETTERS + j) × (secondOf (getD (set T n w) j 0) < LETTERS + j)
+        go j k (yes l) = rw (old j l) (h .lower j l)
+        go j k (no l) = let z : j ≡ n = omega arith in rw (z, new) (f, g)
+
+-- ---- a formula at a position
+
+module _ (q : List ℕ) (at n : ℕ) (T : List ℕ) (h : Numbers q at n T) where
+  pub number-letter : getD q at 0 ≡ 1 → Numbered q at n T T (record { name = getD q (at + 1) 0; end = at + 2; next = n })
+  number-letter e =
+      let a = letter-at q at (h .well) (λ i. omega arith) in
+      let l : getD q (at + 1) 0 < LETTERS = rw (a .stands) at (h .lettered) in
+      record {
+        tells = rw (a .stands) (refl, l);
+        below = omega arith;
+        end = sym (a .ends);
+        more = omega arith;
+        few = omega arith;
+        nodes = h .nodes;
+        kept = λ k i. refl;
+        size = refl;
+      }
+
+  module _ (u : getD q at 0 ≡ 1 → ⊥) where
+    byte : 2 ≤ getD q at 0
+    byte = go (at-position q at (h .well))
+      where
+        go : At q at → 2 ≤ getD q at 0
+        go (a-letter a) = absurd (u (a .byte))
+        go (a-compound x a) = omega (arith, a .byte, connective-range (x .connective))
+
+    -- its first part
+    less : connectives (formulaAt q (at + 1)) + 1 ≤ connectives (formulaAt q at)
+    less = let a = first-at q at (h .well) byte in rw (a .stands) (go (a .connective) (formulaAt q (at + 1)) (a .second))
+      where
+        go : (k : Connective) (f g : Formula) → connectives f + 1 ≤ connectives (compound k f g)
+        go NOT f g = omega arith
+        go (two o) f g = omega arith
+
+    pub first-enters : Numbers q (at + 1) n T
+    first-enters =
+        let a = first-at q at (h .well) byte in
+        record {
+          well = a .well;
+          lettered = go (a .connective) (formulaAt q (at + 1)) (a .second) (rw (a .stands) at (h .lettered));
+          fits = omega (arith, less, h .fits);
+          size = h .size;
+          nodes = h .nodes;
+        }
+      where
+        go : (k : Connective) (f g : Formula) → Lettered (compound k f g) → Lettered f
+        go NOT f g l = l
+        go (two o) f g l = l .0
+
+    module _ (f : Named) (R : List ℕ) (a : Numbered q (at + 1) n T R f) where
+      -- NOT
+      pub not-room : f .next < CONNECTIVES
+      not-room = omega (arith, a .few, less, h .fits)
+
+      module _ (e : getD q at 0 ≡ 2) (w : ℕ) (d : w ≡ node (getD q at 0) (f .name) (f .name)) where
+        pub not-lower : (firstOf w < LETTERS + f .next) × (secondOf w < LETTERS + f .next)
+        not-lower = parts-lower NOT (f .next) (omega (arith, not-room)) (f .name) (f .name) (a .below) (a .below) w (d ∙ rw e)
+
+        pub number-not : (P : List ℕ) (r : Named) → Noted w (f .end) (f .next) R P r → Numbered q at n T P r
+        number-not P r t =
+            let s = not-at q at (h .well) byte e in
+            let x = formulaAt q (at + 1) in
+            record {
+              tells = rw (s .stands) (
+                f .name,
+                noted-node NOT (f .next) (omega (arith, not-room)) (f .name) (f .name) (a .below) (a .below) w (d ∙ rw e) (f .end) R P r t,
+                tells-kept R P (f .next) (t .kept) x (f .name) (a .below) (a .tells),
+              );
+              below = t .below;
+              end = t .end ∙ a .end ∙ sym (s .ends);
+              more = omega (arith, a .more, t .more);
+              few = omega (arith, a .few, t .few, less);
+              nodes = t .nodes;
+              kept = λ k i. t .kept k (omega (arith, a .more)) ∙ a .kept k i;
+              size = t .size ∙ a .size;
+            }
+
+      -- a connective of two
+      module _ (e : getD q at 0 ≡ 2 → ⊥) where
+        second : TwoAt q at
+        second = two-at q at (h .well) byte e
+
+        count : connectives (formulaAt q at) ≡ connectives (formulaAt q (at + 1)) + connectives (formulaAt q (f .end)) + 1
+        count = rw (a .end, second .stands) (omega arith)
+
+        pub second-enters : Numbers q (f .end) (f .next) R
+        second-enters =
+            let l : Lettered (join (second .o) (formulaAt q (at + 1)) (formulaAt q (endOf q (at + 1)))) = rw (second .stands) at (h .lettered) in
+            record { well = rw (a .end) (second .well); lettered = rw (a .end) (l .1); fits = omega (arith, a .few, count, h .fits); size = a .size ∙ h .size; nodes = a .nodes }
+
+        module _ (g : Named) (P : List ℕ) (b : Numbered q (f .end) (f .next) R P g) where
+          pub two-room : g .next < CONNECTIVES
+          two-room = omega (arith, a .few, b .few, count, h .fits)
+
+          module _ (w : ℕ) (d : w ≡ node (getD q at 0) (f .name) (g .name)) where
+            pub two-lower : (firstOf w < LETTERS + g .next) × (secondOf w < LETTERS + g .next)
+            two-lower = parts-lower (two (second .o)) (g .next) (omega (arith, two-room)) (f .name) (g .name) (omega (arith, a .below, b .more)) (b .below) w (d ∙ rw (second .byte))
+
+            pub number-two : (Q : List ℕ) (r : Named) → Noted w (g .end) (g .next) P Q r → Numbered q at n T Q r
+            number-two Q r t =
+                let x = formulaAt q (at + 1) in
+                let y = formulaAt q (endOf q (at + 1)) in
+                record {
+                  tells = rw (second .stands) (
+                    f .name,
+                    g .name,
+                    noted-node (two (second .o)) (g .next) (omega (arith, two-room)) (f .name) (g .name) (omega (arith, a .below, b .more)) (b .below) w (d ∙ rw (second .byte)) (g .end) P Q r t,
+                    tells-kept R Q (f .next) (λ k i. t .kept k (omega (arith, b .more)) ∙ b .kept k i) x (f .name) (a .below) (a .tells),
+                    tells-kept P Q (g .next) (t .kept) y (g .name) (b .below) (rw (a .end) at (b .tells)),
+                  );
+                  below = t .below;
+                  end = t .end ∙ b .end ∙ rw (a .end) (sym (second .ends));
+                  more = omega (arith, a .more, b .more, t .more);
+                  few = omega (arith, a .few, b .few, t .few, count);
+                  nodes = t .nodes;
+                  kept = λ k i. t .kept k (omega (arith, a .more, b .more)) ∙ b .kept k (omega (arith, a .more)) ∙ a .kept k i;
+                  size = t .size ∙ b .size ∙ a .size;
+                }

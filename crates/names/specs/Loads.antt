@@ -8,7 +8,7 @@ use Rattle.calculus.specs.declared.Side.{Side}
 use Rattle.calculus.specs.declared.Side.the-variants.{Left, Right}
 use Rattle.calculus.specs.Fold.{fold, SUM}
 use Rattle.calculus.specs.Limits.{ROOM, CONNECTIVES, LETTERS}
-use Rattle.calculus.specs.Syntax.{Formula, Sequent, on-side, connectives}
+use Rattle.calculus.specs.Syntax.{Formula, Sequent, connectives}
 use Rattle.calculus.specs.Bytes.{Lettered}
 use Rattle.question.specs.Positions.{Well, formulaAt, endOf}
 use Rattle.sequent.specs.Names.{nodeOf, Tells, Distinct, firstOf, secondOf}
@@ -28,11 +28,11 @@ abbrev pub Kept : ℕ → List ℕ → List ℕ → Type 0
 Kept n T R = (k : ℕ) → k < n → getD R k 0 ≡ getD T k 0
 
 -- n nodes, and maybe one more: the name is that of the node w
-pub record Noted (w end n : ℕ) (T R : List ℕ) (r : Named) : Type 0 where
+pub record Noted (w behind n : ℕ) (T R : List ℕ) (r : Named) : Type 0 where
   pub above : LETTERS ≤ r .name
   pub below : r .name < LETTERS + r .next
   pub held : nodeOf R (r .name) ≡ w
-  pub end : r .end ≡ end
+  pub end : r .end ≡ behind
   pub more : n ≤ r .next
   pub few : r .next ≤ n + 1
   pub nodes : Nodes R (r .next)

@@ -21,7 +21,7 @@ connective-code (two OR) = refl
 connective-code (two IMPLIES) = refl
 connective-code (two EQUIV) = refl
 
-command-small : (k : Connective) → code (CONNECTIVE k) < 256
+pub command-small : (k : Connective) → code (CONNECTIVE k) < 256
 command-small NOT = omega arith
 command-small (two AND) = omega arith
 command-small (two OR) = omega arith
@@ -34,7 +34,7 @@ pub record Read (b f g w : ℕ) : Type 0 where
   pub first : firstOf w ≡ f
   pub second : secondOf w ≡ g
 
-node-read : (b f g w : ℕ) → b < 256 → f < 256 → g < 256 → w ≡ node b f g → Read b f g w
+pub node-read : (b f g w : ℕ) → b < 256 → f < 256 → g < 256 → w ≡ node b f g → Read b f g w
 node-read b f g w h i j e = record { command = omega arith; first = omega arith; second = omega arith }
 
 module _ (T : List ℕ) (full : length T ≡ CONNECTIVES) where
