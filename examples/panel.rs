@@ -127,12 +127,13 @@ fn main() {
                 &[or(and(p(), q()), and(p(), r()))],
             ),
         ),
+        // The same formula on both sides is closed at once, whatever its width.
         ("parity", question(&[parity(3)], &[parity(3)])),
     ];
     login("A wall within the budget", &small);
 
     let mut large = small.clone();
-    large.push(("wide", question(&[parity(20)], &[parity(20)])));
+    large.push(("wide", question(&[], &[parity(20)])));
     login("The same wall with one wide cell", &large);
 
     let mut broken = small;

@@ -38,7 +38,8 @@
  *
  *   reductions <= c * W;
  *   closings <= W (closings + 1 <= W for a refuted question);
- *   a derivation has 2 * (reductions + closings) bytes, so at most 2 * (c * W + W): GEKUNDAY_DERIVATION_MAX(W, c).
+ *   a derivation has 2 bytes for each reduction and each closing on a letter, and 3 for each closing on equal formulas;
+ *   one that gekunday_derive writes has at most 2 * (c * W + W): GEKUNDAY_DERIVATION_MAX(W, c).
  *
  * W is at most 2 to the power c, so these bounds fit 64 bits.  A budget of c * W is never spent.
  *
@@ -63,7 +64,7 @@ extern "C" {
 #define GEKUNDAY_VARIED_MAX 16       /* different letters that a question may have for its states to be listed */
 #define GEKUNDAY_STATES_MAX 65536    /* states in a list: a buffer of so many is never too short */
 
-/* The longest derivation, in bytes, of a question of width W with c connectives (both as gekunday_width answers). */
+/* The longest derivation, in bytes, that is written for width W and c connectives (both as gekunday_width answers). */
 #define GEKUNDAY_DERIVATION_MAX(W, c) (2u * ((uint64_t)(c) * (uint64_t)(W) + (uint64_t)(W)))
 
 /* ---- the bytes of a question ------------------------------------------------------------------------------------- */
@@ -109,13 +110,15 @@ extern "C" {
 /* States that were not listed; looked for before NO_SPACE. */
 #define GEKUNDAY_MANY_LETTERS 12    /* more than 16 different letters occur in the question */
 
-/* A derivation that does not pass.  The place counts from the derivation's first byte. */
-#define GEKUNDAY_CHECK_CUT 20             /* fewer than two bytes left while a sequent waits; place: the command's */
-#define GEKUNDAY_CHECK_UNKNOWN_COMMAND 21 /* not 41, 52 to 56 or 62 to 66; place: the command's */
-#define GEKUNDAY_CHECK_NO_FORMULA 22      /* no formula at that place of that side; place: the command's */
-#define GEKUNDAY_CHECK_OTHER_FORMULA 23   /* the formula there is a letter or has another connective; place: the command's */
-#define GEKUNDAY_CHECK_NOT_CLOSED 24      /* the letter does not stand on both sides; place: the command's */
-#define GEKUNDAY_CHECK_LEFT_OVER 25       /* bytes after a complete derivation; place: the first such byte's */
+/* A derivation that does not pass; at each command looked for in this order.  The place counts from the derivation's
+ * first byte: it is the command's, for LEFT_OVER that of the first byte left over. */
+#define GEKUNDAY_CHECK_CUT 20             /* fewer than two bytes left while a sequent waits; for 42, fewer than three */
+#define GEKUNDAY_CHECK_UNKNOWN_COMMAND 21 /* not 41, 42, 52 to 56 or 62 to 66 */
+#define GEKUNDAY_CHECK_NO_FORMULA 22      /* no formula at that place of that side; for 42, at one of the two */
+#define GEKUNDAY_CHECK_OTHER_FORMULA 23   /* the formula there is a letter or has another connective */
+#define GEKUNDAY_CHECK_NOT_CLOSED 24      /* the letter does not stand on both sides */
+#define GEKUNDAY_CHECK_LEFT_OVER 25       /* bytes after a complete derivation */
+#define GEKUNDAY_CHECK_NOT_EQUAL 26       /* the two formulas that 42 names differ or are letters */
 
 /* ---- calls ------------------------------------------------------------------------------------------------------- */
 
@@ -156,9 +159,13 @@ uint32_t gekunday_formula(const uint8_t *question, size_t length, uint32_t side 
  * Under any number but 0 the whole buffer keeps its content.  A buffer of GEKUNDAY_DERIVATION_MAX(W, c) bytes is never
  * too short; with a room of 0 the call answers, for a theorem, how long the derivation is.
  *
- * A derivation is commands of two bytes: 52 to 56 reduce NOT to EQUIV on the left, 62 to 66 on the right, followed by
- * the formula's place on that side; 41 closes, followed by the letter.  After a reduction with two premises comes the
- * whole derivation of the first premise, then that of the second.
+ * A derivation is commands with operands of one byte: 52 to 56 reduce NOT to EQUIV on the left, 62 to 66 on the right,
+ * followed by the formula's place on that side; 41 closes on a letter of both sides, followed by the letter; 42 closes
+ * on equal formulas with a connective, followed by the left place and the right place.  After a reduction with two
+ * premises comes the whole derivation of the first premise, then that of the second.
+ *
+ * A sequent is closed by its lowest letter on both sides.  If there is none, it is closed by the lowest left place whose
+ * formula has an equal on the right, with the lowest such right place.
  */
 uint32_t gekunday_derive(const uint8_t *question, size_t length, uint64_t budget, uint8_t *buffer, size_t room,
                          uint64_t out[3]);
@@ -166,9 +173,9 @@ uint32_t gekunday_derive(const uint8_t *question, size_t length, uint64_t budget
 /*
  * Checks a derivation of a question, ours or another's: it may reduce in any order.
  *
- *   0: it passes; 1 to 7, 20 to 25: {place}
+ *   0: it passes; 1 to 7, 20 to 26: {place}
  *
- * With 1 to 7 the place is the question's, with 20 to 25 the derivation's.  A derivation that passes shows that the
+ * With 1 to 7 the place is the question's, with 20 to 26 the derivation's.  A derivation that passes shows that the
  * question is a theorem.
  */
 uint32_t gekunday_check(const uint8_t *question, size_t length, const uint8_t *derivation, size_t derivation_length,

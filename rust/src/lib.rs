@@ -205,13 +205,13 @@ impl Width {
         self.width
     }
 
-    /// 2 (c W + W): a derivation has no more bytes.
+    /// 2 (c W + W): no derivation that [`derive()`] writes has more bytes.
     pub const fn derivation_bound(self) -> u64 {
         self.reductions_bound().saturating_add(self.closings_bound()).saturating_mul(2)
     }
 }
 
-/// The answer of [`derive`] when the derivation was written.
+/// The answer of [`derive()`] when the derivation was written.
 #[derive(Clone, Copy, Debug, PartialEq, Eq, Hash)]
 pub struct Written<'b> {
     /// The derivation: the first bytes of the lent buffer.
@@ -222,7 +222,7 @@ pub struct Written<'b> {
     pub closings: u64,
 }
 
-/// Why [`derive`] wrote nothing.
+/// Why [`derive()`] wrote nothing.
 #[derive(Clone, Copy, Debug, PartialEq, Eq, Hash)]
 pub enum NotWritten {
     /// 1 to 7: the question is refused.
@@ -290,11 +290,11 @@ impl Error for NotWritten {}
 pub enum NotPassed {
     /// 1 to 7: the question is refused.
     Refused(Refusal),
-    /// 20: fewer than two bytes are left while a sequent waits.
+    /// 20: fewer than two bytes are left while a sequent waits, or fewer than three at 42.
     Cut(u64),
     /// 21: an unknown command.
     UnknownCommand(u64),
-    /// 22: no formula at that place.
+    /// 22: no formula at that place; for 42, at one of the two.
     NoFormula(u64),
     /// 23: the formula there is a letter or has another connective.
     OtherFormula(u64),
@@ -302,10 +302,12 @@ pub enum NotPassed {
     NotClosed(u64),
     /// 25: bytes follow a complete derivation. The place is that of the first such byte.
     LeftOver(u64),
+    /// 26: the two formulas that 42 names differ or are letters.
+    NotEqual(u64),
 }
 
 impl NotPassed {
-    /// The library's number: 1 to 7 or 20 to 25.
+    /// The library's number: 1 to 7 or 20 to 26.
     pub const fn number(self) -> u32 {
         match self {
             NotPassed::Refused(refusal) => refusal.number(),
@@ -315,6 +317,7 @@ impl NotPassed {
             NotPassed::OtherFormula(_) => 23,
             NotPassed::NotClosed(_) => 24,
             NotPassed::LeftOver(_) => 25,
+            NotPassed::NotEqual(_) => 26,
         }
     }
 
@@ -327,7 +330,8 @@ impl NotPassed {
             | NotPassed::NoFormula(place)
             | NotPassed::OtherFormula(place)
             | NotPassed::NotClosed(place)
-            | NotPassed::LeftOver(place) => place,
+            | NotPassed::LeftOver(place)
+            | NotPassed::NotEqual(place) => place,
         }
     }
 
@@ -339,6 +343,7 @@ impl NotPassed {
             23 => NotPassed::OtherFormula(place),
             24 => NotPassed::NotClosed(place),
             25 => NotPassed::LeftOver(place),
+            26 => NotPassed::NotEqual(place),
             _ => NotPassed::Refused(Refusal::of(number, place)),
         }
     }
@@ -354,6 +359,7 @@ impl fmt::Display for NotPassed {
             NotPassed::OtherFormula(_) => "a letter or another connective at that place",
             NotPassed::NotClosed(_) => "the letter does not stand on both sides",
             NotPassed::LeftOver(_) => "bytes left over",
+            NotPassed::NotEqual(_) => "the two formulas differ or are letters",
         };
         write!(f, "not passed: {} at {}", why, self.place())
     }
@@ -484,17 +490,33 @@ pub fn formula(question: &[u8], side: Side, place: usize) -> Option<&[u8]> {
 /// The bytes behind the derivation keep their content; under an error all do. A buffer of [`Width::derivation_bound`]
 /// bytes is never too short, and an empty one asks for the length alone.
 ///
+/// | bytes | meaning |
+/// |---|---|
+/// | `52` to `56`, place | reduces NOT to EQUIV on the left |
+/// | `62` to `66`, place | reduces NOT to EQUIV on the right |
+/// | `41`, letter | closes: the letter stands on both sides |
+/// | `42`, left place, right place | closes: equal formulas with a connective stand there |
+///
+/// After a reduction with two premises comes the whole derivation of the first, then that of the second. A sequent is
+/// closed by its lowest letter on both sides; if there is none, by the lowest left place whose formula has an equal on
+/// the right, with the lowest such right place.
+///
 /// ```
 /// use gekunday::{derive, NotWritten};
 ///
-/// // P AND Q on both sides.
-/// let question = [0x10, 1, 0x03, 0x01, 0, 0x01, 1, 0x20, 1, 0x03, 0x01, 0, 0x01, 1];
+/// // P AND Q on the left, Q AND P on the right.
+/// let question = [0x10, 1, 0x03, 0x01, 0, 0x01, 1, 0x20, 1, 0x03, 0x01, 1, 0x01, 0];
 /// assert_eq!(derive(&question, 100, &mut []), Err(NotWritten::NoSpace { needed: 8 }));
 ///
 /// let mut buffer = [0xff; 10];
 /// let written = derive(&question, 100, &mut buffer)?;
-/// assert_eq!(written.derivation, [0x53, 0, 0x63, 0, 0x41, 0, 0x41, 1]);
+/// assert_eq!(written.derivation, [0x53, 0, 0x63, 0, 0x41, 1, 0x41, 0]);
 /// assert_eq!(buffer[8..], [0xff; 2]);
+///
+/// // P AND Q on both sides.
+/// let question = [0x10, 1, 0x03, 0x01, 0, 0x01, 1, 0x20, 1, 0x03, 0x01, 0, 0x01, 1];
+/// let written = derive(&question, 0, &mut buffer)?;
+/// assert_eq!((written.derivation, written.reductions, written.closings), (&[0x42, 0, 0][..], 0, 1));
 /// # Ok::<(), gekunday::NotWritten>(())
 /// ```
 pub fn derive<'b>(question: &[u8], budget: u64, buffer: &'b mut [u8]) -> Result<Written<'b>, NotWritten> {
@@ -533,12 +555,14 @@ pub fn derive<'b>(question: &[u8], budget: u64, buffer: &'b mut [u8]) -> Result<
 /// ```
 /// use gekunday::{check, NotPassed};
 ///
-/// // P AND Q on both sides; here the right side is reduced first.
+/// // P AND Q on both sides. The two formulas are equal; they may be reduced all the same, here the right one first.
 /// let question = [0x10, 1, 0x03, 0x01, 0, 0x01, 1, 0x20, 1, 0x03, 0x01, 0, 0x01, 1];
+/// assert_eq!(check(&question, &[0x42, 0, 0]), Ok(()));
 /// let derivation = [0x63, 0, 0x53, 0, 0x41, 0, 0x53, 0, 0x41, 1];
 /// assert_eq!(check(&question, &derivation), Ok(()));
 /// assert_eq!(check(&question, &derivation[..9]), Err(NotPassed::Cut(8)));
 /// assert_eq!(check(&question, &[0x63, 1]), Err(NotPassed::NoFormula(0)));
+/// assert_eq!(check(&question, &[0x53, 0, 0x42, 0, 0]), Err(NotPassed::NotEqual(2)));
 /// ```
 pub fn check(question: &[u8], derivation: &[u8]) -> Result<(), NotPassed> {
     let mut out = [0; 1];

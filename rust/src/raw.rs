@@ -35,7 +35,7 @@ extern "C" {
         out: *mut u64,
     ) -> u32;
 
-    /// 0: it passes; 1 to 7, 20 to 25: {place}.
+    /// 0: it passes; 1 to 7, 20 to 26: {place}.
     ///
     /// # Safety
     /// `question` is good for reading `length` bytes, `derivation` for `derivation_length`, `out` for writing 1 word.

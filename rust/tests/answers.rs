@@ -1,4 +1,5 @@
-//! Answers that a program worked out which shares nothing with the library. One call a line:
+//! Answers that a program worked out which shares nothing with the library, nor with the programs in `common/`. The
+//! library and those programs are both compared with them. One call a line:
 //!
 //!     OP QUESTION [OPERANDS] => NUMBER WORDS.. [kept WRITTEN]
 //!
@@ -7,23 +8,73 @@
 //!
 //! | OP | call | operands | behind `=>` |
 //! |---|---|---|---|
+//! | D | `gekunday_decide` | budget | number, four words |
+//! | V | `gekunday_derive` | budget, room | number, three words, `kept`, the derivation |
+//! | K | `gekunday_check` | the derivation | number, place (0 where it passes) |
 //! | S | `gekunday_states` | room | number, word, `kept`, the states |
 
 mod common;
 
-use common::calls;
-use std::fmt::Debug;
+use common::{calls, order, tree, truth};
+use std::fmt::{Debug, Display};
 use std::str::FromStr;
 
 /// The library's answer to the call on a line, spelled as behind `=>`.
-fn answer(call: &[&str]) -> String {
+fn library(call: &[&str]) -> String {
     match *call {
+        ["D", question, budget] => {
+            let (number, words) = calls::decide(&bytes(question), decimal(budget));
+            format!("{number} {}", joined(&words, " "))
+        }
+        ["V", question, budget, room] => {
+            let (number, words, written) = calls::derive(&bytes(question), decimal(budget), decimal(room));
+            format!("{number} {} kept {}", joined(&words, " "), hexadecimal(&written))
+        }
+        ["K", question, derivation] => {
+            let (number, [place]) = calls::check(&bytes(question), &bytes(derivation));
+            format!("{number} {place}")
+        }
         ["S", question, room] => {
             let (number, [word], states) = calls::states(&bytes(question), decimal(room));
-            format!("{number} {word} kept {}", listed(&states))
+            format!("{number} {word} kept {}", joined(&states, ","))
         }
         _ => panic!("no such call: {call:?}"),
     }
+}
+
+/// The same answer from the programs written apart from the library.
+fn apart(call: &[&str]) -> String {
+    let question = bytes(call[1]);
+    let read = tree::read(&question);
+    match (call, &read) {
+        (["D", _, budget], Ok(read)) => {
+            let (number, words) = grown(read, budget).decided(decimal(budget));
+            format!("{number} {}", joined(&words, " "))
+        }
+        (["D", ..], Err((number, place))) => format!("{number} {place} 0 0 0"),
+        (["V", _, budget, room], Ok(read)) => {
+            let tree = grown(read, budget);
+            let (number, words) = tree.derived(decimal(budget), decimal(room));
+            let written = if number == 0 { &tree.derivation[..] } else { &[] };
+            format!("{number} {} kept {}", joined(&words, " "), hexadecimal(written))
+        }
+        (["V", ..], Err((number, place))) => format!("{number} {place} 0 0 kept -"),
+        (["K", _, derivation], Ok(_)) => {
+            let (number, place) = order::check(&question, &bytes(derivation));
+            format!("{number} {place}")
+        }
+        (["K", ..], Err((number, place))) => format!("{number} {place}"),
+        (["S", _, room], _) => {
+            let (number, [word], states) = truth::states(&question, decimal(room));
+            format!("{number} {word} kept {}", joined(&states, ","))
+        }
+        _ => panic!("no such call: {call:?}"),
+    }
+}
+
+/// The tree as far as this budget goes.
+fn grown(question: &tree::Question, budget: &str) -> tree::Tree {
+    question.tree(decimal::<u64>(budget).min(1_000_000) as usize)
 }
 
 /// Compares all lines. Answers their number.
@@ -32,7 +83,8 @@ fn compare(lines: &str) -> usize {
     for line in lines.lines() {
         let (call, expected) = line.split_once(" => ").unwrap_or_else(|| panic!("no answer: {line}"));
         let call: Vec<&str> = call.split(' ').collect();
-        assert_eq!(answer(&call), expected, "{line}");
+        assert_eq!(apart(&call), expected, "the other programs, on {line}");
+        assert_eq!(library(&call), expected, "{line}");
         count += 1;
     }
     count
@@ -50,14 +102,27 @@ fn decimal<T: FromStr<Err: Debug>>(text: &str) -> T {
     text.parse().unwrap()
 }
 
-fn listed(states: &[u32]) -> String {
-    if states.is_empty() {
+/// The numbers, parted by `by`.
+fn joined(numbers: &[impl Display], by: &str) -> String {
+    if numbers.is_empty() {
         return "-".to_string();
     }
-    states.iter().map(u32::to_string).collect::<Vec<_>>().join(",")
+    numbers.iter().map(|number| number.to_string()).collect::<Vec<_>>().join(by)
+}
+
+fn hexadecimal(bytes: &[u8]) -> String {
+    if bytes.is_empty() {
+        return "-".to_string();
+    }
+    bytes.iter().map(|byte| format!("{byte:02x}")).collect()
 }
 
 #[test]
 fn refuting_states() {
     assert_eq!(compare(include_str!("answers/a.txt")), 500);
+}
+
+#[test]
+fn equal_formulas() {
+    assert_eq!(compare(include_str!("answers/c.txt")), 1_000);
 }

@@ -131,8 +131,8 @@ fn cases_1_to_11() {
         ("10 00 20 01 06 01 00 01 00", "theorem 1 2 2\n66 00 41 00 41 00\n"),
         ("10 01 06 01 00 01 00 20 00", "refuted 1 1 0 2\n"),
         ("10 00 20 01 05 03 05 01 00 04 01 01 01 02 05 01 02 01 03 05 03 01 00 01 01 01 03", "refuted 3 8 1 6\n"),
-        // Case 10 is case 9 with another budget.
-        ("10 01 03 01 00 01 01 20 01 03 01 00 01 01", "theorem 2 2 2\n53 00 63 00 41 00 41 01\n"),
+        // Case 10 is case 9 with another budget. Case 11 is as document 02, c, has it.
+        ("10 01 03 01 00 01 01 20 01 03 01 00 01 01", "theorem 0 1 2\n42 00 00\n"),
     ] {
         prints(&hex(question), text);
     }
@@ -332,6 +332,12 @@ fn short_questions() {
 fn theorems() {
     let seen = random(42, 1_000, |rng| questions::theorem(rng, 12));
     assert_eq!(seen("theorem"), 1_000);
+}
+
+#[test]
+fn formulas_on_both_sides() {
+    let seen = random(45, 1_000, questions::repeated);
+    assert!(seen("theorem") > 500 && seen("refuted") > 100);
 }
 
 #[test]

@@ -1,4 +1,5 @@
-//! The questions that document 01 tries by hand, and the smallest example of each number.
+//! The questions that document 01 tries by hand (case 11 as document 02, c, has it), and the smallest example of each
+//! number.
 
 mod common;
 
@@ -101,7 +102,10 @@ fn case_10_a_budget_of_7_and_of_8() {
 
 #[test]
 fn case_11_and_on_both_sides() {
-    theorem("10 01 03 01 00 01 01 20 01 03 01 00 01 01", 2, 2, 2, "53 00 63 00 41 00 41 01");
+    theorem("10 01 03 01 00 01 01 20 01 03 01 00 01 01", 0, 1, 2, "42 00 00");
+    // A derivation that takes the two apart passes all the same.
+    let question = hex("10 01 03 01 00 01 01 20 01 03 01 00 01 01");
+    assert_eq!(calls::check(&question, &hex("53 00 63 00 41 00 41 01")), (0, [0]));
 }
 
 #[test]
@@ -219,6 +223,9 @@ fn smallest_derivations_not_written() {
     assert_eq!(calls::derive(&closed, 0, 1), (11, [2, 0, 0], vec![]));
     assert_eq!(calls::derive(&closed, 0, 2), (0, [2, 0, 1], vec![0x41, 5]));
     assert_eq!(calls::derive(&equiv, 1, 5), (11, [6, 0, 0], vec![]));
+    let equal = hex("10 01 02 01 05 20 01 02 01 05");
+    assert_eq!(calls::derive(&equal, 0, 2), (11, [3, 0, 0], vec![]));
+    assert_eq!(calls::derive(&equal, 0, 3), (0, [3, 0, 1], vec![0x42, 0, 0]));
 }
 
 /// All states that refute document 01's questions, and some others.
@@ -284,6 +291,31 @@ fn the_lowest_letter_closes() {
     everything(&question);
 }
 
+/// Equal formulas with a connective close where no letter does, at the lowest places.
+#[test]
+fn equal_formulas_close() {
+    // A letter comes first, wherever it stands.
+    theorem("10 02 02 01 00 01 01 20 02 02 01 00 01 01", 0, 1, 1, "41 01");
+    // The lowest left place that has an equal, here 1, with the lowest right place of its equals. Left place 2 has an
+    // equal at right place 0.
+    let (left, right) = ("02 01 02 02 01 00 02 01 01 02 01 00", "02 01 01 02 01 03 02 01 00 02 01 00");
+    theorem(&format!("10 04 {left} 20 04 {right}"), 0, 1, 1, "42 01 02");
+    // After a reduction: IMPLIES with equal parts, by itself and between letters; EQUIV closes twice.
+    theorem("10 00 20 01 05 02 01 00 02 01 00", 1, 1, 1, "65 00 42 00 00");
+    theorem("10 01 01 01 20 02 01 02 05 02 01 00 02 01 00", 1, 1, 1, "65 01 42 01 01");
+    theorem("10 00 20 01 06 02 01 00 02 01 00", 1, 2, 2, "66 00 42 00 00 42 00 00");
+    // Equal in every state, but not in bytes.
+    theorem("10 01 03 01 00 01 01 20 01 03 01 01 01 00", 2, 2, 2, "53 00 63 00 41 01 41 00");
+    // A formula and the same with more in front; the last bytes are equal, too.
+    theorem("10 01 02 01 00 20 01 02 02 02 01 00", 4, 1, 1, "52 00 62 00 52 00 62 01 41 00");
+    // The same letter on both sides is no such formula: it closes as a letter.
+    theorem("10 01 01 05 20 01 01 05", 0, 1, 1, "41 05");
+    // NOT P OR NOT Q on the left, NOT P on the right: the first premise closes, the second is open after two more.
+    let or = "10 01 04 02 01 00 02 01 01 20 01 02 01 00";
+    refuted(or, 1, 3, 1, 2);
+    assert_eq!(calls::decide(&hex(or), 1), (9, [0, 0, 1, 1]));
+}
+
 /// Each reduction by itself, with a letter beside it on both sides: places, premises and their order. The letters are
 /// different, so that each sequent in turn is open or closed by one letter alone.
 #[test]
@@ -313,6 +345,15 @@ fn each_reduction_by_itself() {
     }
 }
 
+/// The checker does not pass it, with this number and place; nor does the other one.
+fn fails(question: &[u8], derivation: &str, number: u32, place: u64) {
+    let derivation = hex(derivation);
+    assert_eq!(calls::check(question, &derivation), (number, [place]), "{:02x?}", derivation);
+    assert_eq!(common::order::check(question, &derivation), (number, place), "{:02x?}", derivation);
+    let failed = gekunday::check(question, &derivation).unwrap_err();
+    assert_eq!((failed.number(), failed.place()), (number, place));
+}
+
 /// The checker's numbers, each at its smallest.
 #[test]
 fn smallest_derivations_that_fail() {
@@ -329,7 +370,8 @@ fn smallest_derivations_that_fail() {
         (&and, "53 00 63 00 41 00 41", 20, 6),
         (&closed, "00 00", 21, 0),
         (&closed, "40 00", 21, 0),
-        (&closed, "42 00", 21, 0),
+        (&closed, "43 00", 21, 0),
+        (&closed, "43 00 00", 21, 0),
         (&closed, "51 00", 21, 0),
         (&closed, "57 00", 21, 0),
         (&closed, "61 00", 21, 0),
@@ -360,12 +402,56 @@ fn smallest_derivations_that_fail() {
         (&closed, "41 00 00 00 00", 25, 2),
         (&and, "53 00 63 00 41 00 41 01 ff", 25, 8),
     ] {
-        let derivation = hex(derivation);
-        assert_eq!(calls::check(question, &derivation), (number, [place]), "{:02x?}", derivation);
-        assert_eq!(common::order::check(question, &derivation), (number, place), "{:02x?}", derivation);
-        let failed = gekunday::check(question, &derivation).unwrap_err();
-        assert_eq!((failed.number(), failed.place()), (number, place));
+        fails(question, derivation, number, place);
     }
+}
+
+/// The same for 42, which closes on equal formulas.
+#[test]
+fn smallest_closings_on_equal_formulas_that_fail() {
+    let closed = hex("10 01 01 00 20 01 01 00");
+    let and = hex("10 01 03 01 00 01 01 20 01 03 01 00 01 01");
+    let open = hex("10 01 01 00 20 01 01 01");
+    // NOT P on the left, NOT P AND NOT P on the right.
+    let twice = hex("10 01 02 01 00 20 01 03 02 01 00 02 01 00");
+    // P and NOT P on the left; NOT P, NOT Q and NOT NOT P on the right.
+    let alike = hex("10 02 01 00 02 01 00 20 03 02 01 00 02 01 01 02 02 01 00");
+    for (question, derivation) in [(&and, "42 00 00"), (&twice, "63 00 42 00 00 42 00 00"), (&alike, "42 01 00")] {
+        assert_eq!(calls::check(question, &hex(derivation)), (0, [0]));
+    }
+    for (question, derivation, number, place) in [
+        (&closed, "42", 20, 0),
+        (&closed, "42 00", 20, 0),
+        (&and, "42 00", 20, 0),
+        (&and, "42 01", 20, 0),
+        (&twice, "63 00 42 00", 20, 2),
+        (&twice, "63 00 42 00 00", 20, 5),
+        (&twice, "63 00 42 00 00 42", 20, 5),
+        (&twice, "63 00 42 00 00 42 00", 20, 5),
+        (&twice, "63 00 42 00 00 00 00", 21, 5),
+        (&and, "42 01 00", 22, 0),
+        (&and, "42 00 01", 22, 0),
+        (&and, "42 ff ff", 22, 0),
+        (&closed, "42 01 00", 22, 0),
+        (&closed, "42 00 01", 22, 0),
+        (&twice, "63 00 42 00 00 42 00 01", 22, 5),
+        (&and, "42 00 00 42", 25, 3),
+        (&and, "42 00 00 42 00 00", 25, 3),
+        (&twice, "63 00 42 00 00 42 00 00 00", 25, 8),
+        (&closed, "42 00 00", 26, 0),
+        (&open, "42 00 00", 26, 0),
+        (&alike, "42 00 00", 26, 0),
+        (&alike, "42 01 01", 26, 0),
+        (&alike, "42 01 02", 26, 0),
+        (&and, "53 00 42 00 00", 26, 2),
+        (&twice, "42 00 00", 26, 0),
+        (&twice, "52 00 63 00 62 00 42 00 00", 26, 6),
+    ] {
+        fails(question, derivation, number, place);
+    }
+    let failed = gekunday::check(&open, &[0x42, 0, 0]).unwrap_err();
+    assert_eq!(failed, gekunday::NotPassed::NotEqual(0));
+    assert_eq!(failed.to_string(), "not passed: the two formulas differ or are letters at 0");
 }
 
 /// The question is read before the derivation.

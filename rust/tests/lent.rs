@@ -75,9 +75,10 @@ fn no_call_goes_beyond_the_lent_bytes() {
     let mut rng = Prng::new(21);
     let (mut for_question, mut for_buffer) = (Fenced::new(), Fenced::new());
     for round in 0..40_000 {
-        let bytes = match rng.below(4) {
+        let bytes = match rng.below(5) {
             0 => questions::short(&mut rng),
             1 => questions::theorem(&mut rng, 8),
+            2 => questions::repeated(&mut rng),
             _ => questions::damaged(&mut rng),
         };
         let at_end = round % 4 != 0;
@@ -103,7 +104,7 @@ fn no_call_goes_beyond_the_lent_bytes() {
             assert_eq!(number, if room == length { 0 } else { 11 });
         }
         let cut = rng.below(length + 1);
-        for derivation in [&tree.derivation[..], &tree.derivation[..cut]] {
+        for derivation in [&tree.derivation[..], &tree.derivation[..cut], &tree.derivation[..length - 1]] {
             let lent = for_buffer.put(derivation, at_end);
             let number =
                 unsafe { raw::gekunday_check(question, bytes.len(), lent, derivation.len(), out.as_mut_ptr()) };

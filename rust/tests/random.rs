@@ -5,14 +5,15 @@ mod common;
 
 use common::examine::{examine, Seen};
 use common::prng::Prng;
-use common::questions::{damaged, equiv_chains, near_limits, short, theorem};
+use common::questions::{damaged, equiv_chains, near_limits, repeated, short, theorem};
 
 const SHORT: u64 = 80_000;
 const THEOREMS: u64 = 30_000;
 const NEAR_LIMITS: u64 = 20_000;
+const REPEATED: u64 = 40_000;
 const DAMAGED: u64 = 90_000;
 
-const _: () = assert!(SHORT + THEOREMS + NEAR_LIMITS + DAMAGED >= 200_000);
+const _: () = assert!(SHORT + THEOREMS + NEAR_LIMITS + REPEATED + DAMAGED >= 200_000);
 
 fn run(seed: u64, count: u64, limit: usize, make: impl Fn(&mut Prng) -> Vec<u8>) -> Seen {
     let mut rng = Prng::new(seed);
@@ -57,6 +58,20 @@ fn questions_near_the_limits() {
     assert!(seen.tables > NEAR_LIMITS / 4, "{:?}", seen);
     assert!(seen.listed > NEAR_LIMITS / 4 && seen.states > NEAR_LIMITS / 4, "{:?}", seen);
     assert!(seen.many_letters > NEAR_LIMITS / 10, "{:?}", seen);
+}
+
+/// Equal formulas with a connective meet on both sides, also where several could close, and where a letter does.
+#[test]
+fn formulas_on_both_sides() {
+    let seen = run(8, REPEATED, 2_000, repeated);
+    assert_eq!(seen.refused, [0; 8]);
+    assert!(seen.theorems > REPEATED / 2 && seen.refuted > REPEATED / 5, "{:?}", seen);
+    assert!(seen.most_connectives > 0 && seen.most_formulas > REPEATED / 10, "{:?}", seen);
+    let equals = seen.equals;
+    assert!(equals.closings > REPEATED && equals.later > REPEATED, "{:?}", seen);
+    assert!(equals.over_0 > REPEATED / 2, "{:?}", seen);
+    assert!(equals.more_left > REPEATED / 4 && equals.more_right > REPEATED / 4, "{:?}", seen);
+    assert!(equals.letter_first > REPEATED / 10, "{:?}", seen);
 }
 
 #[test]

@@ -1,8 +1,8 @@
 //! One question put to the library, the truth table and the tree: everything that they must agree on.
 
 use super::prng::Prng;
-use super::tree::{self, End, Question};
-use super::{calls, truth};
+use super::tree::{self, End, Equals, Question, Tree};
+use super::{calls, order, truth};
 use gekunday::{Kind, NotListed, NotWritten, Refusal, Side, Verdict};
 
 /// What has been seen, so that a test can show that its questions were not all of one kind.
@@ -26,6 +26,7 @@ pub struct Seen {
     pub most_formulas: u64,
     pub reductions: u64,
     pub closings: u64,
+    pub equals: Equals,
     pub most_reductions: u64,
 }
 
@@ -92,20 +93,37 @@ fn accepted(bytes: &[u8], question: &Question, table: &truth::Sequent, rng: &mut
 
     let tree = question.tree(limit);
     assert_ne!(tree.end, End::Full);
-    let r = tree.reductions;
     if tree.end == End::Large {
-        // More than `limit` reductions, so each budget up to the limit is spent.
         seen.large += 1;
-        for budget in [0, 1, rng.below(limit) as u64, r - 1, r] {
-            let expected = tree.decided(budget);
-            assert_eq!(expected.0, 9);
-            assert_eq!(calls::decide(bytes, budget), expected, "decide {:02x?} with {}", bytes, budget);
-        }
-        assert_eq!(calls::derive(bytes, r, 64), (9, tree.derived(r, 64).1, vec![]), "derive {:02x?}", bytes);
-        return;
+        return spent(bytes, &tree, limit, rng);
     }
+    seen.reductions += tree.reductions;
+    seen.closings += tree.closings;
+    seen.equals += tree.equals;
+    seen.most_reductions = seen.most_reductions.max(tree.reductions);
 
-    // Verdict and counts, whatever the budget.
+    let budgets = verdicts(bytes, &tree, rng);
+    bounds(bytes, question, &tree);
+    truthful(bytes, table, listed, seen);
+    let tight = rng.pick(&budgets);
+    derivation(bytes, &tree, tight, rng);
+    wrapped_derive(bytes, &tree, tight);
+}
+
+/// More than `limit` reductions, so each budget up to the limit is spent.
+fn spent(bytes: &[u8], tree: &Tree, limit: usize, rng: &mut Prng) {
+    let r = tree.reductions;
+    for budget in [0, 1, rng.below(limit) as u64, r - 1, r] {
+        let expected = tree.decided(budget);
+        assert_eq!(expected.0, 9);
+        assert_eq!(calls::decide(bytes, budget), expected, "decide {:02x?} with {}", bytes, budget);
+    }
+    assert_eq!(calls::derive(bytes, r, 64), (9, tree.derived(r, 64).1, vec![]), "derive {:02x?}", bytes);
+}
+
+/// Verdict and counts, with budgets on both sides of the reductions. Answers the budgets.
+fn verdicts(bytes: &[u8], tree: &Tree, rng: &mut Prng) -> Vec<u64> {
+    let r = tree.reductions;
     let mut budgets = vec![0, r, r + 1, rng.next() % (r + 1), 1 << 32, u64::MAX];
     budgets.extend(r.checked_sub(1));
     for &budget in &budgets {
@@ -120,22 +138,23 @@ fn accepted(bytes: &[u8], question: &Question, table: &truth::Sequent, rng: &mut
         assert_eq!(gekunday::decide(bytes, budget), Ok(Verdict { kind, reductions, closings }));
         assert_eq!(kind == Kind::Spent, budget < r);
     }
-    seen.reductions += r;
-    seen.closings += tree.closings;
-    seen.most_reductions = seen.most_reductions.max(r);
+    budgets
+}
 
-    // The bounds from the width.
+/// The bounds from the width.
+fn bounds(bytes: &[u8], question: &Question, tree: &Tree) {
+    let (width, c) = (question.width(), u128::from(question.connectives));
     let open = u128::from(tree.end != End::Theorem);
-    assert!(u128::from(r) <= u128::from(c) * width, "reductions over the bound: {:02x?}", bytes);
+    assert!(u128::from(tree.reductions) <= c * width, "reductions over the bound: {:02x?}", bytes);
     assert!(u128::from(tree.closings) + open <= width, "closings over the bound: {:02x?}", bytes);
+    assert!(tree.derivation.len() as u128 <= 2 * (c * width + width), "bytes over the bound: {:02x?}", bytes);
+}
 
-    truthful(bytes, table, listed, seen);
-
-    // The derivation, with rooms on both sides of its length, and budgets on both sides of the reductions.
+/// The derivation, with rooms on both sides of its length, and budgets on both sides of the reductions.
+fn derivation(bytes: &[u8], tree: &Tree, tight: u64, rng: &mut Prng) {
     let length = tree.derivation.len();
     let mut rooms = vec![0, length, length + rng.within(1, 40)];
     rooms.extend(length.checked_sub(1));
-    let tight = rng.pick(&budgets);
     for room in rooms {
         for budget in [u64::MAX, tight] {
             let (number, words) = tree.derived(budget, room);
@@ -150,8 +169,8 @@ fn accepted(bytes: &[u8], question: &Question, table: &truth::Sequent, rng: &mut
             );
         }
     }
-    wrapped_derive(bytes, &tree, tight);
     if tree.end == End::Theorem {
+        assert_eq!(order::check(bytes, &tree.derivation), (0, 0), "the other checker, on {:02x?}", bytes);
         assert_eq!(calls::check(bytes, &tree.derivation), (0, [0]), "check {:02x?}", bytes);
         assert_eq!(gekunday::check(bytes, &tree.derivation), Ok(()));
     }
@@ -224,7 +243,7 @@ fn wrapped_states(bytes: &[u8], room: usize, (number, [word], states): (u32, [u6
     assert!(buffer[states.len()..].iter().all(|&state| state == BEFORE));
 }
 
-fn wrapped_derive(bytes: &[u8], tree: &tree::Tree, budget: u64) {
+fn wrapped_derive(bytes: &[u8], tree: &Tree, budget: u64) {
     let room = tree.derivation.len() + 3;
     let mut buffer = vec![0xee; room];
     let answer = gekunday::derive(bytes, budget, &mut buffer);

@@ -78,41 +78,86 @@ impl<'q> Sequent<'q> {
             })
             .collect()
     }
+
+    /// Whether equal formulas with a connective stand at these places; otherwise the checker's number.
+    fn equals(&self, left: usize, right: usize) -> Result<(), u32> {
+        match (self.0[LEFT].get(left), self.0[RIGHT].get(right)) {
+            (Some(formula), Some(other)) if formula == other && formula[0] != 1 => Ok(()),
+            (Some(_), Some(_)) => Err(26),
+            _ => Err(22),
+        }
+    }
+
+    /// The side and place of each formula with a connective.
+    fn compounds(&self) -> Vec<(usize, usize)> {
+        [LEFT, RIGHT]
+            .iter()
+            .flat_map(|&side| (0..self.0[side].len()).map(move |place| (side, place)))
+            .filter(|&(side, place)| self.0[side][place][0] != 1)
+            .collect()
+    }
+
+    /// Each command that closes.
+    fn closing(&self) -> Vec<Vec<u8>> {
+        let letters = (0..32).filter(|&letter| self.has_letter(LEFT, letter) && self.has_letter(RIGHT, letter));
+        let on_letters = letters.map(|letter| vec![0x41, letter]);
+        let pairs = (0..self.0[LEFT].len()).flat_map(|left| (0..self.0[RIGHT].len()).map(move |right| (left, right)));
+        let equals = pairs.filter(|&(left, right)| self.equals(left, right).is_ok());
+        on_letters.chain(equals.map(|(left, right)| vec![0x42, left as u8, right as u8])).collect()
+    }
+
+    /// Obeys the first command: how many bytes it takes and the premises that then wait, or the checker's number.
+    fn obey(&self, derivation: &[u8]) -> Result<(usize, Vec<Sequent<'q>>), u32> {
+        let (side, command, place): (_, _, usize) = match *derivation {
+            [] | [_] | [0x42, _] => return Err(20),
+            [0x41, letter, ..] if self.has_letter(LEFT, letter) && self.has_letter(RIGHT, letter) => {
+                return Ok((2, vec![]));
+            }
+            [0x41, ..] => return Err(24),
+            [0x42, left, right, ..] => {
+                return self.equals(left.into(), right.into()).map(|()| (3, vec![]));
+            }
+            [command @ 0x52..=0x56, place, ..] => (LEFT, command, place.into()),
+            [command @ 0x62..=0x66, place, ..] => (RIGHT, command, place.into()),
+            _ => return Err(21),
+        };
+        match self.0[side].get(place) {
+            None => Err(22),
+            Some(formula) if formula[0] != command % 16 => Err(23),
+            Some(_) => Ok((2, self.premises(side, place))),
+        }
+    }
 }
 
 /// The checker's number and place; 0 and 0 where the derivation passes.
 pub fn check(question: &[u8], derivation: &[u8]) -> (u32, u64) {
     let mut waiting = vec![Sequent::of(question)];
-    let mut commands = derivation.chunks(2).enumerate();
+    let mut at = 0;
     while let Some(sequent) = waiting.pop() {
-        let (at, pair) = match commands.next() {
-            Some((at, pair)) => (2 * at as u64, pair),
-            None => return (20, derivation.len() as u64),
-        };
-        let &[command, operand] = pair else {
-            return (20, at);
-        };
-        let side = match command {
-            0x41 => {
-                if sequent.has_letter(LEFT, operand) && sequent.has_letter(RIGHT, operand) {
-                    continue;
-                }
-                return (24, at);
+        match sequent.obey(&derivation[at..]) {
+            Ok((taken, premises)) => {
+                at += taken;
+                waiting.extend(premises.into_iter().rev());
             }
-            0x52..=0x56 => LEFT,
-            0x62..=0x66 => RIGHT,
-            _ => return (21, at),
-        };
-        match sequent.0[side].get(operand as usize) {
-            None => return (22, at),
-            Some(formula) if formula[0] != command % 16 => return (23, at),
-            Some(_) => waiting.extend(sequent.premises(side, operand as usize).into_iter().rev()),
+            Err(number) => return (number, at as u64),
         }
     }
-    match commands.next() {
-        None => (0, 0),
-        Some((at, _)) => (25, 2 * at as u64),
+    if at < derivation.len() {
+        return (25, at as u64);
     }
+    (0, 0)
+}
+
+/// The commands of a derivation, one by one; what is left at its end may be cut.
+pub fn commands(derivation: &[u8]) -> Vec<&[u8]> {
+    let mut commands = vec![];
+    let mut rest = derivation;
+    while let Some(&command) = rest.first() {
+        let (first, behind) = rest.split_at(rest.len().min(if command == 0x42 { 3 } else { 2 }));
+        commands.push(first);
+        rest = behind;
+    }
+    commands
 }
 
 /// What the random-order prover found.
@@ -122,24 +167,17 @@ pub enum Found {
     TooLarge,
 }
 
-/// Proves the question with reductions in a random order, closing at random letters and sometimes later than it could,
-/// in at most `limit` commands.
+/// Proves the question with reductions in a random order, closing at random letters and at random equal formulas and
+/// sometimes later than it could, in at most `limit` commands.
 pub fn prove(question: &[u8], rng: &mut Prng, limit: usize) -> Found {
     let mut derivation = vec![];
     let mut waiting = vec![Sequent::of(question)];
-    while let Some(sequent) = waiting.pop() {
-        if derivation.len() >= 2 * limit {
-            return Found::TooLarge;
-        }
-        let closing: Vec<u8> =
-            (0..32).filter(|&k| sequent.has_letter(LEFT, k) && sequent.has_letter(RIGHT, k)).collect();
-        let compound: Vec<(usize, usize)> = [LEFT, RIGHT]
-            .iter()
-            .flat_map(|&side| (0..sequent.0[side].len()).map(move |place| (side, place)))
-            .filter(|&(side, place)| sequent.0[side][place][0] != 1)
-            .collect();
+    for _ in 0..limit {
+        let Some(sequent) = waiting.pop() else { break };
+        let compound = sequent.compounds();
+        let closing = sequent.closing();
         if !closing.is_empty() && (compound.is_empty() || rng.chance(80)) {
-            derivation.extend([0x41, rng.pick(&closing)]);
+            derivation.extend(&closing[rng.below(closing.len())]);
         } else if compound.is_empty() {
             return Found::Refuted;
         } else {
@@ -148,5 +186,8 @@ pub fn prove(question: &[u8], rng: &mut Prng, limit: usize) -> Found {
             waiting.extend(sequent.premises(side, place).into_iter().rev());
         }
     }
-    Found::Derivation(derivation)
+    match waiting.is_empty() {
+        true => Found::Derivation(derivation),
+        false => Found::TooLarge,
+    }
 }

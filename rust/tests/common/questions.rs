@@ -1,4 +1,5 @@
-//! Random questions: short ones, ones near the limits, theorems by construction, and damaged ones.
+//! Random questions: short ones, ones near the limits, theorems by construction, ones with formulas on both sides, and
+//! damaged ones.
 
 use super::prng::Prng;
 
@@ -170,28 +171,84 @@ pub fn theorem(rng: &mut Prng, most: usize) -> Vec<u8> {
             let at = rng.below(side.len() + 1);
             side.insert(at, beside);
         }
-        let bytes =
-            [&[0x10, left.len() as u8][..], &left.concat(), &[0x20, right.len() as u8], &right.concat()].concat();
+        let bytes = spelled(&left, &right);
         if super::tree::read(&bytes).is_ok() {
             return bytes;
         }
     }
 }
 
+/// The question with these formulas.
+fn spelled(left: &[Vec<u8>], right: &[Vec<u8>]) -> Vec<u8> {
+    [&[0x10, left.len() as u8][..], &left.concat(), &[0x20, right.len() as u8], &right.concat()].concat()
+}
+
+/// Some formulas with connectives. Some of them differ from the one before in a letter or in the order of their parts.
+fn pool(rng: &mut Prng, shape: &Shape) -> Vec<Vec<u8>> {
+    let most = rng.pick(&[1, 2, 4]);
+    let mut pool: Vec<Vec<u8>> = vec![];
+    for _ in 0..rng.within(1, 5) {
+        let mut made = vec![];
+        match (pool.last(), rng.below(4)) {
+            (Some(before), 0) => {
+                made.clone_from(before);
+                let last = made.len() - 1;
+                made[last] = rng.pick(&shape.letters);
+            }
+            (Some(before), 1) => {
+                rewritten(rng, before, &mut made);
+            }
+            _ => {
+                let connectives = rng.within(1, most);
+                formula(rng, shape, connectives, true, &mut made);
+            }
+        }
+        pool.push(made);
+    }
+    pool
+}
+
+/// A formula of the pool, by itself or as a part of another one; or a letter.
+fn drawn(rng: &mut Prng, shape: &Shape, pool: &[Vec<u8>]) -> Vec<u8> {
+    let one = &pool[rng.below(pool.len())];
+    let other = &pool[rng.below(pool.len())];
+    match rng.below(16) {
+        0 => [&[NOT], &one[..]].concat(),
+        1..=4 => [&[rng.within(3, 6) as u8], &one[..], other].concat(),
+        5..=6 => vec![LETTER, rng.pick(&shape.letters)],
+        _ => one.clone(),
+    }
+}
+
+/// A question with formulas of a small pool on both sides, by themselves and as parts: equal ones with a connective
+/// meet, often at several places, at once or after reductions. Letters stand beside them.
+pub fn repeated(rng: &mut Prng) -> Vec<u8> {
+    let count = rng.within(2, 8);
+    let shape = Shape { letters: some_letters(rng, count), thrift: rng.pick(&[0, 0, 50]), apart: false, nots: true };
+    loop {
+        let pool = pool(rng, &shape);
+        let [left, right] = [0, 1].map(|_| -> Vec<Vec<u8>> {
+            let count = rng.pick(&[0, 1, 1, 2, 3, 4, 6, 9, 16]);
+            (0..count).map(|_| drawn(rng, &shape, &pool)).collect()
+        });
+        let bytes = spelled(&left, &right);
+        if super::tree::read(&bytes).is_ok() {
+            return bytes;
+        }
+    }
+}
+
+const TELLING: [u8; 18] = [0, 1, 2, 3, 4, 5, 6, 7, 15, 16, 17, 0x20, 0x21, 31, 33, 48, 127, 255];
+
 /// A question with some bytes changed, put in, taken out or appended, or one that goes over a limit.
 pub fn damaged(rng: &mut Prng) -> Vec<u8> {
-    const TELLING: [u8; 18] = [0, 1, 2, 3, 4, 5, 6, 7, 15, 16, 17, 0x20, 0x21, 31, 33, 48, 127, 255];
-    let mut bytes = match rng.below(10) {
+    let mut bytes = match rng.below(11) {
         0..=4 => short(rng),
         5..=6 => near_limits(rng),
         7 => theorem(rng, 8),
-        8 => {
-            // Over the limits now and then; half of these go out with no other damage.
-            let letters = if rng.chance(10) { 33 } else { 32 };
-            let shape = Shape { letters: (0..letters).collect(), thrift: 50, apart: false, nots: true };
-            let (left, right) = (rng.pick(&[1, 15, 16, 17]), rng.pick(&[1, 15, 16, 16]));
-            let connectives = rng.within(46, 52);
-            let bytes = question(rng, &shape, left, right, connectives);
+        8 => repeated(rng),
+        9 => {
+            let bytes = over_limits(rng);
             if rng.chance(50) {
                 return bytes;
             }
@@ -205,27 +262,40 @@ pub fn damaged(rng: &mut Prng) -> Vec<u8> {
         }
     };
     for _ in 0..rng.within(1, 3) {
-        let at = rng.below(bytes.len().max(1));
-        match rng.below(8) {
-            0 | 1 if !bytes.is_empty() => bytes[at] = rng.pick(&TELLING),
-            2 if !bytes.is_empty() => bytes[at] ^= 1 << rng.below(8),
-            3 if !bytes.is_empty() => {
-                bytes.remove(at);
-            }
-            4 => bytes.insert(at, rng.pick(&TELLING)),
-            5 => bytes.truncate(at),
-            6 => {
-                let more = rng.within(1, 4);
-                bytes.extend((0..more).map(|_| rng.pick(&TELLING)));
-            }
-            _ => {
-                let end = rng.within(at, bytes.len());
-                let again = bytes[at.min(end)..end].to_vec();
-                bytes.splice(at.min(end)..at.min(end), again);
-            }
-        }
+        damage(rng, &mut bytes);
     }
     bytes
+}
+
+/// A question over the limits now and then.
+fn over_limits(rng: &mut Prng) -> Vec<u8> {
+    let letters = if rng.chance(10) { 33 } else { 32 };
+    let shape = Shape { letters: (0..letters).collect(), thrift: 50, apart: false, nots: true };
+    let (left, right) = (rng.pick(&[1, 15, 16, 17]), rng.pick(&[1, 15, 16, 16]));
+    let connectives = rng.within(46, 52);
+    question(rng, &shape, left, right, connectives)
+}
+
+fn damage(rng: &mut Prng, bytes: &mut Vec<u8>) {
+    let at = rng.below(bytes.len().max(1));
+    match rng.below(8) {
+        0 | 1 if !bytes.is_empty() => bytes[at] = rng.pick(&TELLING),
+        2 if !bytes.is_empty() => bytes[at] ^= 1 << rng.below(8),
+        3 if !bytes.is_empty() => {
+            bytes.remove(at);
+        }
+        4 => bytes.insert(at, rng.pick(&TELLING)),
+        5 => bytes.truncate(at),
+        6 => {
+            let more = rng.within(1, 4);
+            bytes.extend((0..more).map(|_| rng.pick(&TELLING)));
+        }
+        _ => {
+            let end = rng.within(at, bytes.len());
+            let again = bytes[at.min(end)..end].to_vec();
+            bytes.splice(at.min(end)..at.min(end), again);
+        }
+    }
 }
 
 /// A theorem with a large tree: EQUIV over so many letters, on the right, with its letters in the opposite order.

@@ -1,14 +1,21 @@
-//! The tree of a question, grown apart from the library: a recursive-descent reader, formulas as boxes, widths in 128
-//! bits, and document 01's reductions written out one by one.
+//! The tree of a question, grown apart from the library: a recursive-descent reader, formulas as boxes with their bytes,
+//! widths in 128 bits, and document 01's reductions written out one by one.
 
-pub enum Formula {
+use std::ops::AddAssign;
+
+pub struct Formula<'q> {
+    bytes: &'q [u8],
+    shape: Shape<'q>,
+}
+
+enum Shape<'q> {
     Letter(u8),
-    Not(Box<Formula>),
-    Both(Connective, Box<Formula>, Box<Formula>),
+    Not(Box<Formula<'q>>),
+    Both(Connective, Box<Formula<'q>>, Box<Formula<'q>>),
 }
 
 #[derive(Clone, Copy, PartialEq, Eq)]
-pub enum Connective {
+enum Connective {
     And,
     Or,
     Implies,
@@ -16,15 +23,15 @@ pub enum Connective {
 }
 
 /// A formula with its first byte's place and its length.
-pub struct Placed {
-    pub formula: Formula,
+pub struct Placed<'q> {
+    formula: Formula<'q>,
     pub start: usize,
     pub length: usize,
 }
 
-pub struct Question {
-    pub left: Vec<Placed>,
-    pub right: Vec<Placed>,
+pub struct Question<'q> {
+    pub left: Vec<Placed<'q>>,
+    pub right: Vec<Placed<'q>>,
     pub connectives: u64,
 }
 
@@ -37,7 +44,7 @@ struct Reader<'q> {
 }
 
 /// Reads a question, or gives the refusal's number and place.
-pub fn read(bytes: &[u8]) -> Result<Question, Refused> {
+pub fn read(bytes: &[u8]) -> Result<Question<'_>, Refused> {
     if bytes.len() > 212 {
         return Err((1, 212));
     }
@@ -50,7 +57,7 @@ pub fn read(bytes: &[u8]) -> Result<Question, Refused> {
     Ok(Question { left, right, connectives: reader.connectives })
 }
 
-impl Reader<'_> {
+impl<'q> Reader<'q> {
     fn take(&mut self) -> Result<u8, Refused> {
         let byte = *self.bytes.get(self.at).ok_or((2, self.bytes.len() as u64))?;
         self.at += 1;
@@ -62,7 +69,7 @@ impl Reader<'_> {
         Err((number, self.at as u64 - 1))
     }
 
-    fn side(&mut self, command: u8) -> Result<Vec<Placed>, Refused> {
+    fn side(&mut self, command: u8) -> Result<Vec<Placed<'q>>, Refused> {
         if self.take()? != command {
             return self.refuse(3);
         }
@@ -79,11 +86,17 @@ impl Reader<'_> {
         Ok(formulas)
     }
 
-    fn formula(&mut self) -> Result<Formula, Refused> {
+    fn formula(&mut self) -> Result<Formula<'q>, Refused> {
+        let start = self.at;
+        let shape = self.shape()?;
+        Ok(Formula { bytes: &self.bytes[start..self.at], shape })
+    }
+
+    fn shape(&mut self) -> Result<Shape<'q>, Refused> {
         let command = self.take()?;
         if command == 0x01 {
             let letter = self.take()?;
-            return if letter <= 31 { Ok(Formula::Letter(letter)) } else { self.refuse(5) };
+            return if letter <= 31 { Ok(Shape::Letter(letter)) } else { self.refuse(5) };
         }
         if !(0x02..=0x06).contains(&command) {
             return self.refuse(3);
@@ -94,7 +107,7 @@ impl Reader<'_> {
         self.connectives += 1;
         let first = Box::new(self.formula()?);
         if command == 0x02 {
-            return Ok(Formula::Not(first));
+            return Ok(Shape::Not(first));
         }
         let second = Box::new(self.formula()?);
         let connective = match command {
@@ -103,18 +116,18 @@ impl Reader<'_> {
             0x05 => Connective::Implies,
             _ => Connective::Equiv,
         };
-        Ok(Formula::Both(connective, first, second))
+        Ok(Shape::Both(connective, first, second))
     }
 }
 
 fn widths(formula: &Formula) -> (u128, u128) {
-    match formula {
-        Formula::Letter(_) => (1, 1),
-        Formula::Not(part) => {
+    match &formula.shape {
+        Shape::Letter(_) => (1, 1),
+        Shape::Not(part) => {
             let (left, right) = widths(part);
             (right, left)
         }
-        Formula::Both(connective, f, g) => {
+        Shape::Both(connective, f, g) => {
             let ((lf, rf), (lg, rg)) = (widths(f), widths(g));
             match connective {
                 Connective::And => (lf * lg, rf + rg),
@@ -126,7 +139,7 @@ fn widths(formula: &Formula) -> (u128, u128) {
     }
 }
 
-impl Question {
+impl Question<'_> {
     pub fn width(&self) -> u128 {
         let left: u128 = self.left.iter().map(|placed| widths(&placed.formula).0).product();
         let right: u128 = self.right.iter().map(|placed| widths(&placed.formula).1).product();
@@ -139,8 +152,15 @@ impl Question {
             left: self.left.iter().map(|placed| &placed.formula).collect(),
             right: self.right.iter().map(|placed| &placed.formula).collect(),
         };
-        let mut tree =
-            Tree { end: End::Theorem, reductions: 0, closings: 0, derivation: vec![], closings_before: vec![], limit };
+        let mut tree = Tree {
+            end: End::Theorem,
+            reductions: 0,
+            closings: 0,
+            equals: Equals::default(),
+            derivation: vec![],
+            closings_before: vec![],
+            limit,
+        };
         if let Err(end) = tree.grow(root) {
             tree.end = end;
         }
@@ -157,10 +177,38 @@ pub enum End {
     Large,
 }
 
+/// Closings that have to do with equal formulas with a connective on both sides.
+#[derive(Clone, Copy, Default, Debug)]
+pub struct Equals {
+    /// Closings on equal formulas.
+    pub closings: u64,
+    /// Of these: after a reduction; with both places over 0.
+    pub later: u64,
+    pub over_0: u64,
+    /// Of these: a higher left place has an equal, too; a higher right place is equal, too.
+    pub more_left: u64,
+    pub more_right: u64,
+    /// Closings on a letter though equal formulas with a connective stand on both sides.
+    pub letter_first: u64,
+}
+
+impl AddAssign for Equals {
+    fn add_assign(&mut self, more: Equals) {
+        self.closings += more.closings;
+        self.later += more.later;
+        self.over_0 += more.over_0;
+        self.more_left += more.more_left;
+        self.more_right += more.more_right;
+        self.letter_first += more.letter_first;
+    }
+}
+
 pub struct Tree {
     pub end: End,
     pub reductions: u64,
+    /// On letters and on equal formulas.
     pub closings: u64,
+    pub equals: Equals,
     /// The commands in the tree's order; a derivation where the end is `Theorem`.
     pub derivation: Vec<u8>,
     /// For each reduced sequent, in the tree's order: the closings before it.
@@ -170,40 +218,49 @@ pub struct Tree {
 
 #[derive(Clone)]
 struct Sequent<'q> {
-    left: Vec<&'q Formula>,
-    right: Vec<&'q Formula>,
+    left: Vec<&'q Formula<'q>>,
+    right: Vec<&'q Formula<'q>>,
 }
 
 fn letters(side: &[&Formula]) -> u32 {
-    side.iter().fold(0, |set, formula| match formula {
-        Formula::Letter(letter) => set | 1 << letter,
+    side.iter().fold(0, |set, formula| match formula.shape {
+        Shape::Letter(letter) => set | 1 << letter,
         _ => set,
     })
 }
 
-fn first_compound(side: &[&Formula]) -> Option<usize> {
-    side.iter().position(|formula| !matches!(formula, Formula::Letter(_)))
-}
-
-fn command(formula: &Formula) -> u8 {
-    match formula {
-        Formula::Letter(_) => 1,
-        Formula::Not(_) => 2,
-        Formula::Both(Connective::And, ..) => 3,
-        Formula::Both(Connective::Or, ..) => 4,
-        Formula::Both(Connective::Implies, ..) => 5,
-        Formula::Both(Connective::Equiv, ..) => 6,
+impl Formula<'_> {
+    fn is_letter(&self) -> bool {
+        matches!(self.shape, Shape::Letter(_))
     }
 }
 
+fn first_compound(side: &[&Formula]) -> Option<usize> {
+    side.iter().position(|formula| !formula.is_letter())
+}
+
+fn places_of(bytes: &[u8], side: &[&Formula]) -> Vec<usize> {
+    (0..side.len()).filter(|&place| side[place].bytes == bytes).collect()
+}
+
 impl<'q> Sequent<'q> {
+    /// Each left place whose formula has a connective and an equal on the right, with the right places of its equals.
+    /// The lowest come first.
+    fn equals(&self) -> Vec<(usize, Vec<usize>)> {
+        let compounds = self.left.iter().enumerate().filter(|(_, formula)| !formula.is_letter());
+        compounds
+            .map(|(place, formula)| (place, places_of(formula.bytes, &self.right)))
+            .filter(|(_, equals)| !equals.is_empty())
+            .collect()
+    }
+
     fn reduce_left(mut self, at: usize) -> Vec<Sequent<'q>> {
         let formula = self.left.remove(at);
         let mut other = self.clone();
-        match formula {
-            Formula::Letter(_) => unreachable!(),
-            Formula::Not(f) => self.right.push(f),
-            Formula::Both(connective, f, g) => match connective {
+        match &formula.shape {
+            Shape::Letter(_) => unreachable!(),
+            Shape::Not(f) => self.right.push(f),
+            Shape::Both(connective, f, g) => match connective {
                 Connective::And => {
                     self.left.insert(at, g);
                     self.left.insert(at, f);
@@ -233,10 +290,10 @@ impl<'q> Sequent<'q> {
     fn reduce_right(mut self, at: usize) -> Vec<Sequent<'q>> {
         let formula = self.right.remove(at);
         let mut other = self.clone();
-        match formula {
-            Formula::Letter(_) => unreachable!(),
-            Formula::Not(f) => self.left.push(f),
-            Formula::Both(connective, f, g) => match connective {
+        match &formula.shape {
+            Shape::Letter(_) => unreachable!(),
+            Shape::Not(f) => self.left.push(f),
+            Shape::Both(connective, f, g) => match connective {
                 Connective::And => {
                     self.right.insert(at, f);
                     other.right.insert(at, g);
@@ -265,15 +322,12 @@ impl<'q> Sequent<'q> {
 
 impl Tree {
     fn grow(&mut self, sequent: Sequent) -> Result<(), End> {
-        let both = letters(&sequent.left) & letters(&sequent.right);
-        if both != 0 {
-            self.derivation.extend([0x41, both.trailing_zeros() as u8]);
-            self.closings += 1;
+        if self.close(&sequent) {
             return Ok(());
         }
         let (command, at) = match (first_compound(&sequent.left), first_compound(&sequent.right)) {
-            (Some(at), _) => (0x50 + command(sequent.left[at]), at),
-            (None, Some(at)) => (0x60 + command(sequent.right[at]), at),
+            (Some(at), _) => (0x50 + sequent.left[at].bytes[0], at),
+            (None, Some(at)) => (0x60 + sequent.right[at].bytes[0], at),
             (None, None) => return Err(End::Refuted(letters(&sequent.left))),
         };
         let premises = if command < 0x60 { sequent.reduce_left(at) } else { sequent.reduce_right(at) };
@@ -287,6 +341,34 @@ impl Tree {
         self.reductions += 1;
         self.derivation.extend([command, at as u8]);
         premises.into_iter().try_for_each(|premise| self.grow(premise))
+    }
+
+    /// Closes the sequent on its lowest letter, otherwise on equal formulas at their lowest places, if it can.
+    fn close(&mut self, sequent: &Sequent) -> bool {
+        let both = letters(&sequent.left) & letters(&sequent.right);
+        let equals = sequent.equals();
+        if both != 0 {
+            self.derivation.extend([0x41, both.trailing_zeros() as u8]);
+            self.equals.letter_first += u64::from(!equals.is_empty());
+        } else if let Some((left, rights)) = equals.first() {
+            self.derivation.extend([0x42, *left as u8, rights[0] as u8]);
+            self.equals.closings += 1;
+            self.equals.later += u64::from(self.reductions > 0);
+            self.equals.over_0 += u64::from(*left > 0 && rights[0] > 0);
+            self.equals.more_left += u64::from(equals.len() > 1);
+            self.equals.more_right += u64::from(rights.len() > 1);
+        } else {
+            return false;
+        }
+        self.closings += 1;
+        true
+    }
+
+    /// The derivation's length, from the counts alone: 2 for each reduction and each closing on a letter, 3 for each
+    /// closing on equal formulas.
+    pub fn length(&self) -> u64 {
+        let on_letters = self.closings - self.equals.closings;
+        2 * (self.reductions + on_letters) + 3 * self.equals.closings
     }
 
     /// What the call that decides answers with this budget: number and words.
@@ -305,7 +387,7 @@ impl Tree {
     /// What the writer answers with this budget and room: number and words.
     pub fn derived(&self, budget: u64, room: usize) -> (u32, [u64; 3]) {
         let (number, [refuted, state, reductions, closings]) = self.decided(budget);
-        let length = 2 * (reductions + closings);
+        let length = self.length();
         match (number, refuted) {
             (0, 0) if length <= room as u64 => (0, [length, reductions, closings]),
             (0, 0) => (11, [length, 0, 0]),
