@@ -11,10 +11,10 @@ use borrow.Fn.Kinds.{In}
 use borrow.Fn.PlainCycle.{Measures, is, falls, and}
 use Rattle.calculus.specs.declared.Side.the-variants.{Left}
 use Rattle.calculus.specs.Fold.{Each}
-use Rattle.calculus.specs.Limits.{LETTERS}
+use Rattle.calculus.specs.Limits.{ROOM, LETTERS}
 use Rattle.calculus.specs.Syntax.{Sequent, c as connectivesOf}
 use Rattle.calculus.specs.Derivation.{REDUCE, orderCode, derivation}
-use Rattle.calculus.specs.Tree.{tree, isClosed, isDue, inner}
+use Rattle.calculus.specs.Tree.{lettered, paired, tree, isClosed, isDue, inner}
 use Rattle.question.proofs.Readers.{connective-range}
 use Rattle.sequent.specs.declared.Reduction.{Reduction}
 use Rattle.sequent.specs.declared.Rule.{Rule}
@@ -40,6 +40,7 @@ use Rattle.sequent.proofs.Reduction.command.Reads as command-reads
 use Rattle.sequent.proofs.Reduction.rule.Reads as rule-reads
 use Rattle.writer.proofs.command_of.Reads as command-of-reads
 use Rattle.writer.proofs.put.Reads as put-reads
+use Rattle.writer.proofs.put_pair.Reads as put-pair-reads
 use Rattle.writer.proofs.+emit+emit_premise+emit_premises.{statement}
 use Rattle.writer.proofs.+emit+emit_premise+emit_premises.Tie.{close}
 
@@ -90,6 +91,8 @@ emit-calls t = (
   step-reads.Learnt,
   put-reads.Asked,
   put-reads.Learnt,
+  put-pair-reads.Asked,
+  put-pair-reads.Learnt,
   command-reads.Asked,
   command-reads.Learnt,
   command-of-reads.Asked,
@@ -107,27 +110,36 @@ sequentAt t c = sequentOf (c .args .nodes .now) (c .args .items .now) (c .args .
 small-at : (t : ℕ) (c : At t) → c .args .s .leftmask < 2 ^ LETTERS
 small-at t c = omega arith
 
-closed-now : (t : ℕ) (c : emit-lts.After-due (emit-calls t) (emit-at t) emit.Post) → isClosed (c .due .given .0 .0) ≡ inner 1 (sequentAt t (c .before .before .before .before))
+closed-now : (t : ℕ) (c : emit-lts.After-due (emit-calls t) (emit-at t) emit.Post) → isClosed (lettered (c .due .given .0 .0)) ≡ inner 1 (sequentAt t (c .before .before .before .before))
 closed-now t c = rw (c .due .given .1) at (c .before .before .step .ensures .inner)
+
+abbrev Pair : ℕ → Type 0
+Pair t = emit-lts.After-due2 (emit-calls t) (emit-at t) emit.Post
+
+paired-now : (t : ℕ) (c : Pair t) → isClosed (paired (c .due2 .given .0 .0) (c .due2 .given .0 .1 .0)) ≡ inner 1 (sequentAt t (c .before .before .before .before))
+paired-now t c = rw (c .due2 .given .1) at (c .before .before .step .ensures .inner)
+
+places-now : (t : ℕ) (c : Pair t) → (c .due2 .given .0 .0 < ROOM) × (c .due2 .given .0 .1 .0 < ROOM)
+places-now t c = rw (c .due2 .given .1) at (c .before .before .step .ensures .ready)
 
 -- where a reduction is due
 abbrev Due : ℕ → Type 0
-Due t = emit-lts.After-due2 (emit-calls t) (emit-at t) emit.Post
+Due t = emit-lts.After-due3 (emit-calls t) (emit-at t) emit.Post
 
 abbrev reductionAt : (t : ℕ) → Due t → Reduction
-reductionAt t c = c .due2 .given .0 .0
+reductionAt t c = c .due3 .given .0 .0
 
 abbrev premisesNow : (t : ℕ) → Due t → List Sequent
 premisesNow t c = let a = c .before .before .before .before .args in premisesAt (a .nodes .now) (a .items .now) (a .s) (reductionAt t c)
 
 ready-now : (t : ℕ) (c : Due t) → let a = c .before .before .before .before .args in ReadyAt (a .nodes .now) (a .items .now) (a .s) 1 (reductionAt t c)
-ready-now t c = rw (c .due2 .given .1) at (c .before .before .step .ensures .ready)
+ready-now t c = rw (c .due3 .given .1) at (c .before .before .step .ensures .ready)
 
 due-now : (t : ℕ) (c : Due t) →
     let a = c .before .before .before .before .args in
     let r = reductionAt t c in
     isDue (r .side) (r .at) (compoundAt (a .nodes .now) (r .side) (r .at) (view (a .s) (a .items .now))) ≡ inner 1 (sequentAt t (c .before .before .before .before))
-due-now t c = rw (c .due2 .given .1) at (c .before .before .step .ensures .inner)
+due-now t c = rw (c .due3 .given .1) at (c .before .before .step .ensures .inner)
 
 command-now : (t : ℕ) (c : Due t) →
     let a = c .before .before .before .before .args in
@@ -188,7 +200,14 @@ pub +emit+emit-premise+emit-premises-spec : {M : Type 1} → statement M
     (λ c κs.
     let u = c .before .before in
     let s = u .before .before .before .before in
-    omega (arith, s .pre .1 .3, ap length (derivation-closed (sequentAt t s) (u .due .given .0 .0) (closed-now t u))))
+    omega (arith, s .pre .1 .3, ap length (derivation-closed (sequentAt t s) (lettered (u .due .given .0 .0)) (closed-now t u))))
+    (λ c. search needs)
+    (λ c. omega (arith, places-now t (c .before .before)))
+    (λ c. omega (arith, places-now t (c .before .before)))
+    (λ c κs.
+    let u = c .before .before in
+    let s = u .before .before .before .before in
+    omega (arith, s .pre .1 .3, ap length (derivation-closed (sequentAt t s) (paired (u .due2 .given .0 .0) (u .due2 .given .0 .1 .0)) (paired-now t u))))
     (λ c. search needs)
     (λ c κs. search needs)
     (λ c κs.
@@ -227,7 +246,15 @@ pub +emit+emit-premise+emit-premises-spec : {M : Type 1} → statement M
     let s = u .before .before .before .before in
     let a = s .args in
     let p = c .before .before .put .ensures in
-    let e = derivation-closed (sequentAt t s) (u .due .given .0 .0) (closed-now t u) in
+    let e = derivation-closed (sequentAt t s) (lettered (u .due .given .0 .0)) (closed-now t u) in
+    (omega (arith, p .0, ap length e), p .1 ∙ ap (sets (a .buffer .now) (a .at)) (sym e)))
+    (λ c. c .before .before .put-pair .kept .0)
+    (λ c.
+    let u = c .before .before .before .before .before in
+    let s = u .before .before .before .before in
+    let a = s .args in
+    let p = c .before .before .put-pair .ensures in
+    let e = derivation-closed (sequentAt t s) (paired (u .due2 .given .0 .0) (u .due2 .given .0 .1 .0)) (paired-now t u) in
     (omega (arith, p .0, ap length e), p .1 ∙ ap (sets (a .buffer .now) (a .at)) (sym e)))
     (λ c. c .before .before .emit-premises .kept .1 .1 .1 .1 .0 ∙ c .before .before .before .before .before .before .put2 .kept .0)
     (λ c.
@@ -249,7 +276,7 @@ pub +emit+emit-premise+emit-premises-spec : {M : Type 1} → statement M
     let s = c .before .before .before in
     let a = s .args in
     let w = c .before .step in
-    no-other (a .nodes .now) (view (a .s) (a .items .now)) (sequentAt t s) (w .result) (w .ensures .inner) (s .pre .1 .2) (c .match .keys3)))
+    no-other (a .nodes .now) (view (a .s) (a .items .now)) (sequentAt t s) (w .result) (w .ensures .inner) (s .pre .1 .2) (c .match .keys4)))
     (λ t. emit-premise-lts.spec (
       premise-reads.Asked,
       premise-reads.Learnt,

@@ -1,7 +1,8 @@
-use mathlib.Core.Path.{_≡_, sym, ap, _∙_}
+use mathlib.Core.Path.{_≡_, refl, sym, ap, _∙_}
 use Rattle.calculus.specs.Reading.{accepted, reading}
+use Rattle.calculus.specs.Tree.{verdictOf}
 use Rattle.question.specs.Answers.{readingOf}
-use Rattle.writer.proofs.Answering.{theorem-is, theorem-answers, other-answers, refusal-answers}
+use Rattle.writer.proofs.Answering.{theorem-is, left-within, theorem-answers, other-answers, refusal-answers}
 use borrow.Author.Needs.{needs}
 use Rattle.writer.proofs.derive.Statement.{statement}
 use Rattle.writer.proofs.derive.Tie as tie
@@ -15,18 +16,25 @@ read-requires c κs = search needs
 enum-told : tie.Need-enum-told
 enum-told c = search needs
 
+outcome-of-requires : tie.Need-outcome-of-requires
+outcome-of-requires c κs = accepted-now c
+
 verdict-of-requires : tie.Need-verdict-of-requires
-verdict-of-requires c κs = accepted-now c
+verdict-of-requires c κs =
+    let a = c .before .before .before .before .before .before .args in
+    let o = c .outcome-of in
+    left-within (a .q .now) (a .budget) (accepted-now (c .before)) (o .result) (o .ensures) (verdictOf (a .budget) (o .result)) refl
 
 enum-told-2 : tie.Need-enum-told-2
 enum-told-2 c = search needs
 
 write-out-requires : tie.Need-write-out-requires
 write-out-requires c κs =
-    let a = c .before .before .before .before .before .before .before .before .before .args in
+    let a = c .before .before .before .before .before .before .before .before .before .before .args in
     let v = c .before .before .before .verdict-of in
-    let h = accepted-now (c .before .before .before .before) in
-    (h, theorem-is (a .q .now) (a .budget) h (v .result) (v .ensures) (c .before .enum-told2 .given .1))
+    let o = c .before .before .before .before .outcome-of in
+    let h = accepted-now (c .before .before .before .before .before) in
+    (h, theorem-is (a .q .now) (a .budget) h (o .result) (o .ensures) (v .result) (v .ensures) (c .before .enum-told2 .given .1))
 
 enum-known-reading : tie.Need-enum-known-reading
 enum-known-reading c = search needs
@@ -36,19 +44,21 @@ same-length c = search needs
 
 returns : tie.Need-returns
 returns c =
-    let a = c .before .before .before .before .before .before .before .before .before .before .before .before .args in
+    let a = c .before .before .before .before .before .before .before .before .before .before .before .before .before .args in
     let v = c .before .before .before .before .before .before .verdict-of in
+    let o = c .before .before .before .before .before .before .before .outcome-of in
     let w = c .before .before .write-out in
-    let h = accepted-now (c .before .before .before .before .before .before .before) in
+    let h = accepted-now (c .before .before .before .before .before .before .before .before) in
     let k = c .before .before .before .before .enum-told2 .given .1 in
-    let all = theorem-answers (a .q .now) (a .budget) h (v .result) (v .ensures) (a .buffer .now) _ (w .result) k (w .ensures) in
+    let all = theorem-answers (a .q .now) (a .budget) h (o .result) (o .ensures) (v .result) (v .ensures) (a .buffer .now) _ (w .result) k (w .ensures) in
     (all .0, (all .1, all .2))
 
 returns-2 : tie.Need-returns-2
 returns-2 c =
-    let a = c .before .before .before .before .before .before .before .args in
+    let a = c .before .before .before .before .before .before .before .before .args in
     let v = c .before .verdict-of in
-    let all = other-answers (a .q .now) (a .budget) (accepted-now (c .before .before)) (v .result) (v .ensures) (a .buffer .now) (c .match2 .keys2) in
+    let o = c .before .before .outcome-of in
+    let all = other-answers (a .q .now) (a .budget) (accepted-now (c .before .before .before)) (o .result) (o .ensures) (v .result) (v .ensures) (a .buffer .now) (c .match2 .keys2) in
     (all .0, (all .1, all .2))
 
 returns-3 : tie.Need-returns-3
@@ -64,6 +74,7 @@ derive-spec =
     (tie.spec
     read-requires
     enum-told
+    outcome-of-requires
     verdict-of-requires
     enum-told-2
     write-out-requires
