@@ -71,6 +71,8 @@ numbers =
     ∷ row (listed (encodeSequent seventeen)) 12 (17 ∷ [])
     -- command's place: 20, fewer than two bytes left while a sequent waits
     ∷ row (checkReply theorem (0x41 ∷ [])) 20 (0 ∷ [])
+    -- for 42 fewer than three (document 02, c)
+    ∷ row (checkReply theorem (0x42 ∷ 0x00 ∷ [])) 20 (0 ∷ [])
     -- command's place: 21, unknown command
     ∷ row (checkReply theorem (0x40 ∷ 0x00 ∷ [])) 21 (0 ∷ [])
     -- command's place: 22, no formula at that place
@@ -81,4 +83,6 @@ numbers =
     ∷ row (checkReply lettered (0x41 ∷ 0x00 ∷ [])) 24 (0 ∷ [])
     -- first such byte: 25, bytes after a complete derivation
     ∷ row (checkReply theorem (0x41 ∷ 0x00 ∷ 0x41 ∷ [])) 25 (2 ∷ [])
+    -- the command's place: 26, the two formulas named by 42 differ or are letters (document 02, c)
+    ∷ row (checkReply theorem (0x42 ∷ 0x00 ∷ 0x00 ∷ [])) 26 (0 ∷ [])
     ∷ []

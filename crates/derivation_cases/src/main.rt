@@ -1,5 +1,5 @@
-// The derivations of document 01's cases 2, 4, 5 and 7, other orders, and the smallest examples of its numbers 9 to 11 and 20
-// to 25. Number 8 has none: no premise of an accepted question holds more than 80 formulas.
+// The derivations of document 01's cases 2, 4, 5, 7 and 11, other orders, and the smallest examples of its numbers 9 to 11 and
+// 20 to 26. Number 8 has none: no premise of an accepted question holds more than 80 formulas.
 use calculus::Kind;
 use calculus::Verdict;
 ghost use Prim.Native.Nat.{_≤_};
@@ -80,7 +80,7 @@ fn derive(q: &[u8], buffer: &mut [u8])
     }
 }
 
-// Cases 2, 4, 5 and 7.
+// Cases 2, 4, 5, 7 and 11.
 fn cases() {
     let mut buffer = [0u8; 4096];
     derive(b"\x10\x01\x01\x00\x20\x01\x01\x00", &mut buffer);
@@ -93,6 +93,10 @@ fn cases() {
         &mut buffer,
     );
     derive(b"\x10\x00\x20\x01\x06\x01\x00\x01\x00", &mut buffer);
+    derive(
+        b"\x10\x01\x03\x01\x00\x01\x01\x20\x01\x03\x01\x00\x01\x01",
+        &mut buffer,
+    );
 }
 
 // Case 4 reduced in other orders than ours: the formula on the right first, and the place behind it first.
@@ -102,7 +106,7 @@ fn other_orders() {
     check(q, b"\x52\x00\x64\x01\x62\x00\x41\x00");
 }
 
-// 20 to 25. The empty sequent is the smallest question; 23 asks for a formula, and 25 for a theorem.
+// 20 to 26. The empty sequent is the smallest question; 23 asks for a formula, and 25 for a theorem.
 fn faults() {
     let empty = b"\x10\x00\x20\x00";
     check(empty, b"");
@@ -116,6 +120,20 @@ fn faults() {
     check(b"\x10\x01\x01\x00\x20\x00", b"\x41\x00");
     check(b"\x10\x01\x01\x00\x20\x01\x01\x00", b"\x41\x00\x41");
     check(b"", b"\x41\x00");
+}
+
+// Case 11 by the table alone; then the faults at 42: cut short, no formula at either place, bytes left over, and the two
+// formulas letters, and different.
+fn pairs() {
+    let q = b"\x10\x01\x03\x01\x00\x01\x01\x20\x01\x03\x01\x00\x01\x01";
+    check(q, b"\x53\x00\x63\x00\x41\x00\x41\x01");
+    check(q, b"\x42");
+    check(q, b"\x42\x00");
+    check(q, b"\x42\x01\x00");
+    check(q, b"\x42\x00\x01");
+    check(q, b"\x42\x00\x00\x42");
+    check(b"\x10\x01\x01\x00\x20\x01\x01\x00", b"\x42\x00\x00");
+    check(b"\x10\x01\x02\x01\x00\x20\x01\x02\x01\x01", b"\x42\x00\x00");
 }
 
 // Case 7, with the second premise at fault: its place is behind the first's derivation.
@@ -150,6 +168,7 @@ fn main() {
     cases();
     other_orders();
     faults();
+    pairs();
     second_premise();
     unwritten();
 }

@@ -20,7 +20,7 @@ ghost use Rattle.calculus.specs.Syntax.{Connective, c, size};
 ghost use Rattle.calculus.specs.Bytes.{CONNECTIVE, code, question};
 ghost use Rattle.calculus.specs.Reading.{reading, accepted};
 ghost use Rattle.calculus.specs.Reply.{decideReply};
-ghost use Rattle.calculus.specs.Tree.{verdictOf, outcome, closing, afford, due};
+ghost use Rattle.calculus.specs.Tree.{verdictOf, verdict, outcome, closing, afford, due};
 ghost use Rattle.sequent.specs.declared.Place.the-variants.{At};
 ghost use Rattle.sequent.specs.Rule.{premiseOf, overfullOf};
 ghost use Rattle.sequent.specs.View.{view, sequentOf, Good};
@@ -259,8 +259,8 @@ pub fn outcome_of(q: &[u8], budget: u64) -> Outcome
     run(&nodes, &items, s, 0, budget)
 }
 
-// The verdict under a budget, from what the run comes to.
-pub fn verdict_of(o: Outcome, budget: u64) -> Verdict
+// What is reported of it: the kind, the reductions and the closings.
+pub fn report(o: Outcome, budget: u64) -> Verdict
     requires { ⌜ o .unspent ≤ budget ⌝ }
     ensures { λ r. ⌜ r ≡ verdictOf budget o ⌝ }
 {
@@ -270,6 +270,15 @@ pub fn verdict_of(o: Outcome, budget: u64) -> Verdict
         reductions: budget - o.unspent,
         closings: o.closings,
     }
+}
+
+// The verdict of an accepted question.
+pub fn verdict_of(q: &[u8], budget: u64) -> Verdict
+    requires { ⌜ reading (now q) ≡ accepted ⌝ }
+    ensures { λ r. ⌜ r ≡ verdict budget (question (now (q .entry))) ⌝ }
+{
+    let o = outcome_of(q, budget);
+    report(o, budget)
 }
 
 pub enum Decision {
@@ -284,7 +293,7 @@ pub fn decide(q: &[u8], budget: u64) -> Decision
 {
     let reading = question::read(q);
     match reading {
-        Reading::Accepted => Decision::Decided(verdict_of(outcome_of(q, budget), budget)),
+        Reading::Accepted => Decision::Decided(verdict_of(q, budget)),
         Reading::Refused(r) => Decision::Refused(r),
     }
 }

@@ -15,7 +15,7 @@ use Rattle.calculus.specs.Syntax.{Seq, on-side}
 use Rattle.calculus.specs.Table.{L, R, on, splice, premise}
 use Rattle.calculus.proofs.Folds.{each-append}
 use Rattle.sequent.specs.declared.Placing.{Placing}
-use Rattle.sequent.specs.Rule.{sideCode, keep, partsOn, placed, countOne}
+use Rattle.sequent.specs.Rule.{sideCode, keep, partsOn, placed}
 
 pub on-left : {X : Type 0} (xs ys : List X) → on Left (map (λ z. L z) xs ++ map (λ z. R z) ys) ≡ xs
 on-left {X} (x ∷ xs) ys = ap (λ (l : List X). x ∷ l) (on-left xs ys)
@@ -50,19 +50,6 @@ splice-size xs new i h =
 pub ones : {X : Type 0} (xs : List X) → fold SUM (λ x. 1) xs ≡ length xs
 ones [] = refl
 ones (x ∷ xs) = omega (arith, ones xs)
-
-pub kept : {X : Type 0} (x y : X) (a b : Bool) → fold SUM (λ x. 1) (keep a x ++ keep b y) ≡ countOne a + countOne b
-kept x y true true = refl
-kept x y true false = refl
-kept x y false true = refl
-kept x y false false = refl
-
--- a part that goes somewhere goes to one side
-pub somewhere : (n : ℕ) → n ≤ 2 → (n ≡ 0 → ⊥) → 1 ≡ countOne (eqb n 1) + countOne (eqb n 2)
-somewhere zero h k = absurd (k refl)
-somewhere (suc zero) h k = refl
-somewhere (suc (suc zero)) h k = refl
-somewhere (suc (suc (suc n))) h k = absurd (omega arith)
 
 -- ---- a fact of each element
 

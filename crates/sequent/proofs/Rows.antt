@@ -47,21 +47,6 @@ rule-row k s =
 pub rows-of : (k : Connective) (s : Side) (r : Rule) → r ≡ ruleOf k s → premisesOf r ≡ map sided (table k s)
 rows-of k s r e = ap premisesOf e ∙ rule-row k s
 
--- Each part of a first premise has its side's number or none.
-pub first-sides : (k : Connective) (s : Side) → (ruleOf k s .first .f ≤ 2) × (ruleOf k s .first .g ≤ 2)
-first-sides k s =
-    ten k s
-    (λ h d. rw (h, d) (omega arith, omega arith))
-    (λ h d. rw (h, d) (omega arith, omega arith))
-    (λ h d. rw (h, d) (omega arith, omega arith))
-    (λ h d. rw (h, d) (omega arith, omega arith))
-    (λ h d. rw (h, d) (omega arith, omega arith))
-    (λ h d. rw (h, d) (omega arith, omega arith))
-    (λ h d. rw (h, d) (omega arith, omega arith))
-    (λ h d. rw (h, d) (omega arith, omega arith))
-    (λ h d. rw (h, d) (omega arith, omega arith))
-    (λ h d. rw (h, d) (omega arith, omega arith))
-
 -- Both premises of a rule place as many parts, so that the first tells whether there is room.
 pub first-tells : (k : Connective) (s : Side) (n : ℕ) → ltb (ROOM + 1) (n + size (premiseOf (ruleOf k s .first))) ≡ overfullOf (ruleOf k s) n
 first-tells k s n =

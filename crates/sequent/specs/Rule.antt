@@ -67,10 +67,6 @@ placed p x y = map (λ z. L z) (partsOn Left p x y) ++ map (λ z. R z) (partsOn 
 abbrev pub placings : Rule → List Placing
 placings r = r .first ∷ choose (eqb (r .premises) 2) (r .second ∷ []) []
 
-abbrev pub countOne : Bool → ℕ
-countOne true = 1
-countOne false = 0
-
 -- whether a premise of a rule would hold more than there is room for, n formulas being held
 abbrev pub overfullOf : Rule → ℕ → Bool
 overfullOf r n =

@@ -5,7 +5,6 @@ use question::LETTERS;
 ghost use mathlib.Core.Path.{_≡_};
 ghost use mathlib.Core.List.{_++_};
 ghost use Prim.Native.Nat.{_+_, _-_, _%_, _≤_, _<_};
-ghost use lib.Dec.{eqb};
 ghost use lib.ListN.{length};
 ghost use lib.Seq.{slice};
 ghost use Rattle.calculus.specs.Limits.{ROOM, LETTERS};
@@ -13,7 +12,7 @@ ghost use Rattle.calculus.specs.Syntax.{Connective, size};
 ghost use Rattle.calculus.specs.Bytes.{CONNECTIVE, code};
 ghost use Rattle.calculus.specs.Table.{premise};
 ghost use Rattle.sequent.specs.Names.{firstOf, secondOf};
-ghost use Rattle.sequent.specs.Rule.{sideCode, ruleOf, keep, partsOn, placed, premiseOf, countOne};
+ghost use Rattle.sequent.specs.Rule.{sideCode, ruleOf, keep, partsOn, placed};
 ghost use Rattle.sequent.specs.View.{view, countOf, slotOf, endOf, startOf, bitOf, lettersOf, compoundBit, compoundsOf, Covered, Joined, Good, nameAt};
 ghost use Rattle.sequent.specs.Passes.{Fits, Stored, Builds};
 ghost use Rattle.sequent.specs.Compounds.{firstIn, Clear, Found, Stands, Paired, ruleFor, reductionAt};
@@ -129,25 +128,6 @@ fn rule_of(b: u8, side: Side) -> Rule
             g: digit(row),
         },
     }
-}
-
-// 1 for a part that goes to a side, 0 for one that goes nowhere.
-fn one(side: u8) -> usize
-    requires { ⌜ side ≤ 2 ⌝ }
-    ensures { λ r. ⌜ (r ≡ countOne (eqb side 1) + countOne (eqb side 2)) × (r ≤ 1) ⌝ }
-{
-    if side == 0 {
-        return 0;
-    }
-    1
-}
-
-// How many parts a premise places.
-pub fn placed(p: Placing) -> usize
-    requires { ⌜ (p .f ≤ 2) × (p .g ≤ 2) ⌝ }
-    ensures { λ r. ⌜ (r ≡ size (premiseOf p)) × (r ≤ 2) ⌝ }
-{
-    one(p.f) + one(p.g)
 }
 
 // The lowest byte of a number.

@@ -212,7 +212,7 @@ pub fn derive(q: &[u8], budget: u64, buffer: &mut [u8]) -> Writing
     match reading {
         Reading::Accepted => {
             let o = prover::outcome_of(q, budget);
-            let v = prover::verdict_of(o, budget);
+            let v = prover::report(o, budget);
             let kind = v.kind;
             match kind {
                 Kind::Theorem => write_out(q, v, o.pairings, buffer),

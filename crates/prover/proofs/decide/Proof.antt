@@ -1,8 +1,7 @@
 use mathlib.Core.Path.{_≡_, sym, ap, _∙_}
 use Rattle.calculus.specs.Reading.{accepted, reading}
-use Rattle.calculus.specs.Tree.{verdictOf}
 use Rattle.question.specs.Answers.{readingOf}
-use Rattle.prover.proofs.Decisions.{decided, promised, budget-left, refusal, refused-no-verdict}
+use Rattle.prover.proofs.Decisions.{decided, promised, refusal, refused-no-verdict}
 use borrow.Author.Needs.{needs}
 use Rattle.prover.proofs.decide.Statement.{statement}
 use Rattle.prover.proofs.decide.Tie as tie
@@ -16,23 +15,17 @@ read-requires c κs = search needs
 enum-told : tie.Need-enum-told
 enum-told c = search needs
 
-outcome-of-requires : tie.Need-outcome-of-requires
-outcome-of-requires c κs = accepted-now c
-
 verdict-of-requires : tie.Need-verdict-of-requires
-verdict-of-requires c κs =
-    let a = c .before .before .before .before .before .args in
-    budget-left (a .q .now) (a .budget) (c .outcome-of .result) (c .outcome-of .ensures)
+verdict-of-requires c κs = accepted-now c
 
 enum-known-reading : tie.Need-enum-known-reading
 enum-known-reading c = search needs
 
 returns : tie.Need-returns
 returns c =
-    let a = c .before .before .before .before .before .before .args in
+    let a = c .before .before .before .before .before .args in
     let v = c .verdict-of in
-    let e = v .ensures ∙ ap (verdictOf (a .budget)) (c .before .outcome-of .ensures) in
-    (decided (a .q .now) (a .budget) (accepted-now (c .before .before)) (v .result) e, promised (a .q .now) (a .budget) (accepted-now (c .before .before)) (v .result) e)
+    (decided (a .q .now) (a .budget) (accepted-now (c .before)) (v .result) (v .ensures), promised (a .q .now) (a .budget) (accepted-now (c .before)) (v .result) (v .ensures))
 
 returns-2 : tie.Need-returns-2
 returns-2 c =
@@ -43,11 +36,4 @@ returns-2 c =
 pub decide-spec : {M : Type 1} → statement M
 decide-spec =
     tie.close
-    (tie.spec
-    read-requires
-    enum-told
-    outcome-of-requires
-    verdict-of-requires
-    enum-known-reading
-    returns
-    returns-2)
+    (tie.spec read-requires enum-told verdict-of-requires enum-known-reading returns returns-2)

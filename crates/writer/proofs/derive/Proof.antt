@@ -19,8 +19,8 @@ enum-told c = search needs
 outcome-of-requires : tie.Need-outcome-of-requires
 outcome-of-requires c κs = accepted-now c
 
-verdict-of-requires : tie.Need-verdict-of-requires
-verdict-of-requires c κs =
+report-requires : tie.Need-report-requires
+report-requires c κs =
     let a = c .before .before .before .before .before .before .args in
     let o = c .outcome-of in
     left-within (a .q .now) (a .budget) (accepted-now (c .before)) (o .result) (o .ensures) (verdictOf (a .budget) (o .result)) refl
@@ -31,7 +31,7 @@ enum-told-2 c = search needs
 write-out-requires : tie.Need-write-out-requires
 write-out-requires c κs =
     let a = c .before .before .before .before .before .before .before .before .before .before .args in
-    let v = c .before .before .before .verdict-of in
+    let v = c .before .before .before .report in
     let o = c .before .before .before .before .outcome-of in
     let h = accepted-now (c .before .before .before .before .before) in
     (h, theorem-is (a .q .now) (a .budget) h (o .result) (o .ensures) (v .result) (v .ensures) (c .before .enum-told2 .given .1))
@@ -45,7 +45,7 @@ same-length c = search needs
 returns : tie.Need-returns
 returns c =
     let a = c .before .before .before .before .before .before .before .before .before .before .before .before .before .args in
-    let v = c .before .before .before .before .before .before .verdict-of in
+    let v = c .before .before .before .before .before .before .report in
     let o = c .before .before .before .before .before .before .before .outcome-of in
     let w = c .before .before .write-out in
     let h = accepted-now (c .before .before .before .before .before .before .before .before) in
@@ -56,7 +56,7 @@ returns c =
 returns-2 : tie.Need-returns-2
 returns-2 c =
     let a = c .before .before .before .before .before .before .before .before .args in
-    let v = c .before .verdict-of in
+    let v = c .before .report in
     let o = c .before .before .outcome-of in
     let all = other-answers (a .q .now) (a .budget) (accepted-now (c .before .before .before)) (o .result) (o .ensures) (v .result) (v .ensures) (a .buffer .now) (c .match2 .keys2) in
     (all .0, (all .1, all .2))
@@ -75,7 +75,7 @@ derive-spec =
     read-requires
     enum-told
     outcome-of-requires
-    verdict-of-requires
+    report-requires
     enum-told-2
     write-out-requires
     enum-known-reading
