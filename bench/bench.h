@@ -3,12 +3,16 @@
 #include "questions.h"
 #include <stdbool.h>
 
-enum { SETS = 2, CALLS = 5, MOST_IMPLEMENTATIONS = 16, MOST_LISTERS = 16, MOST_ROUNDS = 101 };
+enum { EDITOR, LIMITS, CONDITIONS, SETS, DISTINCT_SETS = 2 };
+enum { CALLS = 5, MOST_IMPLEMENTATIONS = 16, MOST_LISTERS = 16, MOST_ROUNDS = 101 };
+
+// How many words of the answer, beside its number, must be the same as peer_value's.
+typedef enum { VERDICT = 1, STATE = 2, TREE = 4 } agreement;
 
 typedef struct {
     const char *name, *note;
     decide *decide; // none for the LISP process
-    bool tree;      // builds document 01's tree
+    agreement agrees;
     int passes[SETS];
     double best[SETS], median[SETS]; // nanoseconds a question
 } implementation;
@@ -25,6 +29,11 @@ typedef struct {
     const char *set;
     double ours, peer; // nanoseconds a question
 } reading_time;
+
+typedef struct {
+    const question_set *set;
+    double ours, before, peer; // nanoseconds a question
+} distinct_time;
 
 typedef struct {
     const char *set;
@@ -46,8 +55,10 @@ typedef struct {
     question_set listed;
     lister listers[MOST_LISTERS]; // the first is the library under test
     int listers_count;
+    question_set distinct[DISTINCT_SETS]; // those of the first two sets without equal compounds
+    distinct_time distincts[DISTINCT_SETS];
     reading_time readings[SETS + 1];
-    derivation_time derivations[SETS];
+    derivation_time derivations[SETS + DISTINCT_SETS];
     stack_use stacks[CALLS];
 } results;
 
@@ -66,7 +77,7 @@ void write_table(FILE *file, const results *r);
 void write_plot(FILE *file, const results *r);
 
 // The greatest stack depth of each call of the library: over deeply nested questions of 48 connectives, those near the
-// limits that have 48, and some of the longest; gekunday_states also over those of 16 letters that have 48. Depths up to
-// LEAST_DEPTH, the probe's own frame with them, are not told apart.
+// limits and with equal conditions that have 48, and some of the longest; gekunday_states also over those of 16 letters that
+// have 48. Depths up to LEAST_DEPTH, the probe's own frame with them, are not told apart.
 enum { LEAST_DEPTH = 256 };
 void probe_stacks(results *r, const question_set *longest);

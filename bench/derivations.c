@@ -1,14 +1,17 @@
-// gekunday_derive and gekunday_check on the theorems of both sets: whether what is written passes, then their times.
+// gekunday_derive and gekunday_check on the theorems of the sets: whether what is written passes, then their times.
 #include "bench.h"
 #include <gekunday.h>
 #include <stdlib.h>
 #include <string.h>
 
+typedef uint32_t derive(const uint8_t *question, size_t length, uint64_t budget, uint8_t *buffer, size_t room,
+                        uint64_t out[3]);
+typedef uint32_t check(const uint8_t *question, size_t length, const uint8_t *derivation, size_t derivation_length,
+                       uint64_t out[1]);
+
 #ifdef WITH_BEFORE
-uint32_t before_derive(const uint8_t *question, size_t length, uint64_t budget, uint8_t *buffer, size_t room,
-                       uint64_t out[3]);
-uint32_t before_check(const uint8_t *question, size_t length, const uint8_t *derivation, size_t derivation_length,
-                      uint64_t out[1]);
+derive before_derive;
+check before_check;
 #else
 #define before_derive gekunday_derive
 #define before_check gekunday_check
@@ -17,14 +20,18 @@ uint32_t before_check(const uint8_t *question, size_t length, const uint8_t *der
 enum { ROOM = 1 << 21 };
 
 typedef struct {
-    const question *question;
-    uint8_t *derivation;
+    uint8_t *bytes;
     size_t length;
+} derivation;
+
+typedef struct {
+    const question *question;
+    derivation ours, before;
 } theorem;
 
 typedef enum { DECIDE, DERIVE, DERIVE_BEFORE, CHECK, CHECK_BEFORE, TIMED } timed;
 
-static uint8_t buffer[ROOM], other[ROOM];
+static uint8_t buffer[ROOM];
 
 static void refuse(const question *q, const char *what)
 {
@@ -33,26 +40,34 @@ static void refuse(const question *q, const char *what)
     exit(1);
 }
 
-// The theorems of a set with their derivations; both archives write the same, and both pass it.
+// The derivation that an archive writes, after its checker has passed it.
+static derivation written(const question *q, derive *derive, check *check)
+{
+    uint64_t out[4];
+    if (derive(q->bytes, q->length, BUDGET, buffer, ROOM, out))
+        refuse(q, "a theorem is not written");
+    derivation d = { malloc(out[0]), out[0] };
+    memcpy(d.bytes, buffer, d.length);
+    if (check(q->bytes, q->length, d.bytes, d.length, out))
+        refuse(q, "a derivation does not pass");
+    return d;
+}
+
+// The theorems of a set with their derivations by each archive. What the one before wrote passes the library's checker too.
 static int theorems_of(const question_set *set, theorem *theorems)
 {
     int count = 0;
     for (int i = 0; i < set->count; i++) {
         const question *q = &set->questions[i];
-        uint64_t out[4];
+        uint64_t out[1];
         if (set->answers[i][0])
             continue;
-        if (gekunday_derive(q->bytes, q->length, BUDGET, buffer, ROOM, out))
-            refuse(q, "a theorem is not written");
         theorem *t = &theorems[count++];
-        *t = (theorem){ q, malloc(out[0]), out[0] };
-        memcpy(t->derivation, buffer, out[0]);
-        if (before_derive(q->bytes, q->length, BUDGET, other, ROOM, out) || out[0] != t->length
-            || memcmp(other, buffer, t->length))
-            refuse(q, "the archive before writes another derivation");
-        if (gekunday_check(q->bytes, q->length, buffer, t->length, out)
-            || before_check(q->bytes, q->length, buffer, t->length, out))
-            refuse(q, "a derivation does not pass");
+        t->question = q;
+        t->ours = written(q, gekunday_derive, gekunday_check);
+        t->before = written(q, before_derive, before_check);
+        if (gekunday_check(q->bytes, q->length, t->before.bytes, t->before.length, out))
+            refuse(q, "a derivation of the archive before does not pass");
     }
     return count;
 }
@@ -65,8 +80,8 @@ static void call(timed what, const theorem *t)
     case DECIDE: gekunday_decide(q->bytes, q->length, BUDGET, out); break;
     case DERIVE: gekunday_derive(q->bytes, q->length, BUDGET, buffer, ROOM, out); break;
     case DERIVE_BEFORE: before_derive(q->bytes, q->length, BUDGET, buffer, ROOM, out); break;
-    case CHECK: gekunday_check(q->bytes, q->length, t->derivation, t->length, out); break;
-    case CHECK_BEFORE: before_check(q->bytes, q->length, t->derivation, t->length, out); break;
+    case CHECK: gekunday_check(q->bytes, q->length, t->ours.bytes, t->ours.length, out); break;
+    case CHECK_BEFORE: before_check(q->bytes, q->length, t->before.bytes, t->before.length, out); break;
     case TIMED: break;
     }
 }
@@ -80,25 +95,32 @@ static double pass(timed what, const theorem *theorems, int count, int times)
     return (now() - start) / times / count;
 }
 
+static derivation_time time_set(const question_set *set, int rounds)
+{
+    static theorem theorems[EDITOR_QUESTIONS];
+    int count = theorems_of(set, theorems), times[TIMED];
+    double best[TIMED];
+    for (int k = 0; k < TIMED; k++) {
+        best[k] = 1e18;
+        times[k] = 1 + 20e6 / (count * pass(k, theorems, count, 1));
+    }
+    for (int round = 0; round < rounds; round++)
+        for (int k = 0; k < TIMED; k++) {
+            double time = pass(k, theorems, count, times[k]);
+            best[k] = time < best[k] ? time : best[k];
+        }
+    for (int i = 0; i < count; i++) {
+        free(theorems[i].ours.bytes);
+        free(theorems[i].before.bytes);
+    }
+    return (derivation_time){ set->title, count, best[DECIDE], best[DERIVE], best[CHECK], best[DERIVE_BEFORE],
+                              best[CHECK_BEFORE] };
+}
+
 void time_derivations(results *r)
 {
-    for (int s = 0; s < SETS; s++) {
-        static theorem theorems[EDITOR_QUESTIONS + LIMITS_QUESTIONS];
-        int count = theorems_of(&r->sets[s], theorems);
-        double best[TIMED];
-        int times[TIMED];
-        for (int k = 0; k < TIMED; k++) {
-            best[k] = 1e18;
-            times[k] = 1 + 20e6 / (count * pass(k, theorems, count, 1));
-        }
-        for (int round = 0; round < r->rounds; round++)
-            for (int k = 0; k < TIMED; k++) {
-                double time = pass(k, theorems, count, times[k]);
-                best[k] = time < best[k] ? time : best[k];
-            }
-        r->derivations[s] = (derivation_time){ r->sets[s].title, count, best[DECIDE], best[DERIVE], best[CHECK],
-                                               best[DERIVE_BEFORE], best[CHECK_BEFORE] };
-        for (int i = 0; i < count; i++)
-            free(theorems[i].derivation);
-    }
+    for (int s = 0; s < SETS; s++)
+        r->derivations[s] = time_set(&r->sets[s], r->rounds);
+    for (int s = 0; s < DISTINCT_SETS; s++)
+        r->derivations[SETS + s] = time_set(&r->distinct[s], r->rounds);
 }

@@ -67,8 +67,8 @@
       (or (occurs v1 c1) (th1r v2 (cons v1 a1) a2 c1 c2))
       (or (occurs v1 c2) (th1r v2 a1 (cons v1 a2) c1 c2))))
 
-;;; The rest serves the benchmark. Arguments: the files of the sets. A line "k n" on standard input runs set k n times and
-;;; answers the nanoseconds; with n = 0 it answers the verdicts, 0 theorem or 1 refuted.
+;;; The rest serves the benchmark. Arguments: the word sets, then the files of the sets. A line "k n" on standard input runs
+;;; set k n times and answers the nanoseconds; with n = 0 it answers the verdicts, 0 theorem or 1 refuted.
 (declaim (optimize (speed 1) (safety 1)))
 
 (defun questions (file)
@@ -84,7 +84,7 @@
     (loop repeat times do (dolist (s set) (theorem s)))
     (- (now) start)))
 
-(let ((sets (mapcar #'questions (last sb-ext:*posix-argv* 2))))
+(let ((sets (mapcar #'questions (cdr (member "sets" sb-ext:*posix-argv* :test #'equal)))))
   (loop for k = (read *standard-input* nil)
         while k
         do (let ((n (read)) (set (nth k sets)))

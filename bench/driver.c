@@ -10,11 +10,14 @@ typedef uint32_t read_call(const uint8_t *question, size_t length, uint64_t out[
 
 #ifdef WITH_BEFORE
 decide before_decide;
+#else
+#define before_decide gekunday_decide
 #endif
 #ifdef WITH_CLANG
 decide peer_value_decide_clang, peer_best_decide_clang, peer_sets_decide_clang;
 read_call peer_scan_clang;
 #else
+#define peer_value_decide_clang peer_value_decide
 #define peer_scan_clang peer_scan
 #endif
 
@@ -25,39 +28,39 @@ double now(void)
     return t.tv_sec * 1e9 + t.tv_nsec;
 }
 
-static void add(results *r, const char *name, const char *note, decide *f, bool tree)
+static void add(results *r, const char *name, const char *note, decide *f, agreement agrees)
 {
-    r->implementations[r->count++] = (implementation){ .name = name, .note = note, .decide = f, .tree = tree };
+    r->implementations[r->count++] = (implementation){ .name = name, .note = note, .decide = f, .agrees = agrees };
 }
 
 static void list_implementations(results *r, bool lisp)
 {
-    add(r, "gekunday", "the library, proved", gekunday_decide, true);
+    add(r, "gekunday", "the library, proved", gekunday_decide, TREE);
 #ifdef WITH_BEFORE
-    add(r, "before", "the archive in GEKUNDAY_BEFORE", before_decide, true);
+    add(r, "before", "the archive in GEKUNDAY_BEFORE", before_decide, STATE);
 #endif
-    add(r, "peer_value (" CC_NAME ")", "C, sequent copied for each premise", peer_value_decide, true);
+    add(r, "peer_value (" CC_NAME ")", "C, sequent copied for each premise", peer_value_decide, TREE);
 #ifdef WITH_CLANG
-    add(r, "peer_value (clang)", "the same", peer_value_decide_clang, true);
+    add(r, "peer_value (clang)", "the same", peer_value_decide_clang, TREE);
 #endif
-    add(r, "peer_best (" CC_NAME ")", "C, in place, copied at two premises only", peer_best_decide, true);
+    add(r, "peer_best (" CC_NAME ")", "C, in place, copied at two premises only", peer_best_decide, TREE);
 #ifdef WITH_CLANG
-    add(r, "peer_best (clang)", "the same", peer_best_decide_clang, true);
+    add(r, "peer_best (clang)", "the same", peer_best_decide_clang, TREE);
 #endif
-    add(r, "peer_sets (" CC_NAME ")", "C, sequent as sets of connectives", peer_sets_decide, true);
+    add(r, "peer_sets (" CC_NAME ")", "C, sequent as sets of connectives", peer_sets_decide, TREE);
 #ifdef WITH_CLANG
-    add(r, "peer_sets (clang)", "the same", peer_sets_decide_clang, true);
+    add(r, "peer_sets (clang)", "the same", peer_sets_decide_clang, TREE);
 #endif
     if (lisp)
-        add(r, "DR 34 (SBCL)", "the report's LISP program, question already read", 0, false);
+        add(r, "DR 34 (SBCL)", "the report's LISP program, question already read", 0, VERDICT);
     else
         printf("bench: sbcl is absent, DR 34's program is skipped\n");
 #ifdef WITH_CADICAL
-    add(r, "CaDiCaL", "Tseitin encoding, a fresh solver each", cadical_decide, false);
+    add(r, "CaDiCaL", "Tseitin encoding, a fresh solver each", cadical_decide, VERDICT);
 #else
     printf("bench: libcadical-dev is absent, CaDiCaL is skipped\n");
 #endif
-    add(r, "truth table", "64 states a word", truth_table_decide, false);
+    add(r, "truth table", "64 states a word", truth_table_decide, VERDICT);
 }
 
 // Agreement
@@ -80,12 +83,12 @@ static void agree(const implementation *m, const question *q, uint64_t budget, u
 {
     uint64_t out[4] = { 7, 7, 7, 7 };
     uint32_t number = m->decide(q->bytes, q->length, budget, out);
-    size_t words = m->tree ? 4 : 1;
-    if (number != due || memcmp(out, due_out, words * sizeof *out))
+    if (number != due || memcmp(out, due_out, m->agrees * sizeof *out))
         disagree(m->name, q, budget, number, out, due, due_out);
 }
 
-// Holds the peers to the paper by some of document 01's cases.
+// Holds the peers to the papers by some of document 01's cases and two more with equal formulas: where one is taken apart
+// before its equal comes to the other side, they do not close; where a third still stands beside it, that one does.
 static void check_cases(const results *r)
 {
     static const struct {
@@ -105,14 +108,16 @@ static void check_cases(const results *r)
           { 1, 3, 8, 1 } },
         { { { 0x10, 0, 0x20, 1, 5, 3, 5, 1, 0, 4, 1, 1, 1, 2, 5, 1, 2, 1, 3, 5, 3, 1, 0, 1, 1, 1, 3 }, 27 }, 7, SPENT,
           { 0, 0, 7, 1 } },
-        { { { 0x10, 1, 3, 1, 0, 1, 1, 0x20, 1, 3, 1, 0, 1, 1 }, 14 }, BUDGET, 0, { 0, 0, 2, 2 } },
+        { { { 0x10, 1, 3, 1, 0, 1, 1, 0x20, 1, 3, 1, 0, 1, 1 }, 14 }, BUDGET, 0, { 0, 0, 0, 1 } },
+        { { { 0x10, 1, 3, 1, 0, 1, 1, 0x20, 1, 2, 2, 3, 1, 0, 1, 1 }, 16 }, BUDGET, 0, { 0, 0, 4, 2 } },
+        { { { 0x10, 0, 0x20, 3, 4, 1, 0, 1, 1, 2, 4, 1, 0, 1, 1, 4, 1, 0, 1, 1 }, 20 }, BUDGET, 0, { 0, 0, 2, 1 } },
         { { { 0x10, 1, 1, 32, 0x20, 0 }, 6 }, BUDGET, NO_SUCH_LETTER, { 3, 0, 0, 0 } },
         { { { 0x10, 17, 0x20, 0 }, 4 }, BUDGET, MANY_FORMULAS, { 1, 0, 0, 0 } },
         { { { 0 }, 0 }, BUDGET, CUT, { 0, 0, 0, 0 } },
     };
     for (size_t k = 0; k < sizeof cases / sizeof *cases; k++)
         for (int i = 0; i < r->count; i++)
-            if (r->implementations[i].decide && (r->implementations[i].tree || cases[k].number != SPENT))
+            if (r->implementations[i].decide && (r->implementations[i].agrees == TREE || cases[k].number != SPENT))
                 agree(&r->implementations[i], &cases[k].question, cases[k].budget, cases[k].number, cases[k].out);
 }
 
@@ -129,7 +134,7 @@ static void check_damaged(const results *r, const question_set *set)
         if (refusal != (number < FULL ? number : 0) || (refusal && scanned[0] != out[0]))
             disagree("peer_scan", &q, 0, refusal, scanned, number, out);
         for (int k = 0; k < r->count; k++)
-            if (r->implementations[k].tree)
+            if (r->implementations[k].agrees == TREE)
                 agree(&r->implementations[k], &q, 1000, number, out);
     }
 }
@@ -162,7 +167,7 @@ static void check_set(const results *r, int number)
             continue;
         peer_value_decide(q->bytes, q->length, budget, out);
         for (int k = 0; k < r->count; k++)
-            if (r->implementations[k].tree)
+            if (r->implementations[k].agrees == TREE)
                 agree(&r->implementations[k], q, budget, SPENT, out);
     }
     check_damaged(r, set);
@@ -170,18 +175,20 @@ static void check_set(const results *r, int number)
 
 // Timing
 
-static double pass(const results *r, const implementation *m, int set, int times)
+static double decide_pass(decide *f, const question_set *set, int times)
 {
-    if (!m->decide)
-        return lisp_pass(set, times);
-    const question_set *s = &r->sets[set];
     double start = now();
     while (times-- > 0)
-        for (int i = 0; i < s->count; i++) {
+        for (int i = 0; i < set->count; i++) {
             uint64_t out[4];
-            m->decide(s->questions[i].bytes, s->questions[i].length, BUDGET, out);
+            f(set->questions[i].bytes, set->questions[i].length, BUDGET, out);
         }
     return now() - start;
+}
+
+static double pass(const results *r, const implementation *m, int set, int times)
+{
+    return m->decide ? decide_pass(m->decide, &r->sets[set], times) : lisp_pass(set, times);
 }
 
 // Each round begins at another stack address, so that no single layout decides.
@@ -226,6 +233,21 @@ static void time_all(results *r)
         }
 }
 
+static double lesser(double a, double b) { return a < b ? a : b; }
+
+// The library, the archive before and peer_value on questions without equal compounds.
+static void time_distinct(distinct_time *t, const question_set *set, int rounds)
+{
+    int times = 1 + 20e6 / decide_pass(peer_value_decide, set, 1);
+    *t = (distinct_time){ set, 1e18, 1e18, 1e18 };
+    for (int round = 0; round < rounds; round++) {
+        t->ours = lesser(t->ours, decide_pass(gekunday_decide, set, times) / times / set->count);
+        t->before = lesser(t->before, decide_pass(before_decide, set, times) / times / set->count);
+        t->peer = lesser(t->peer, decide_pass(peer_value_decide, set, times) / times / set->count);
+        t->peer = lesser(t->peer, decide_pass(peer_value_decide_clang, set, times) / times / set->count);
+    }
+}
+
 // No formula stands at place 99, so this reads the whole question and hands out nothing.
 static uint32_t read_whole(const uint8_t *question, size_t length, uint64_t out[2])
 {
@@ -242,8 +264,6 @@ static double reading_pass(read_call *read, const question_set *set, int times)
         }
     return (now() - start) / times / set->count;
 }
-
-static double lesser(double a, double b) { return a < b ? a : b; }
 
 static void time_reading(reading_time *t, const question_set *set, int rounds)
 {
@@ -266,6 +286,16 @@ static FILE *open_out(const char *directory, const char *name)
     return file;
 }
 
+static void make_sets(results *r)
+{
+    r->sets[EDITOR] = editor_set();
+    r->sets[LIMITS] = limits_set();
+    r->sets[CONDITIONS] = conditions_set();
+    r->distinct[EDITOR] = distinct_of(&r->sets[EDITOR], "Editor-size, no equal compounds");
+    r->distinct[LIMITS] = distinct_of(&r->sets[LIMITS], "Near the limits, no equal compounds");
+    r->listed = states_set();
+}
+
 int main(int count, char **arguments)
 {
     static results r;
@@ -274,9 +304,7 @@ int main(int count, char **arguments)
     r.rounds = rounds ? atoi(rounds) : 15;
     if (r.rounds < 1 || r.rounds > MOST_ROUNDS)
         r.rounds = 15;
-    r.sets[0] = editor_set();
-    r.sets[1] = limits_set();
-    r.listed = states_set();
+    make_sets(&r);
     question_set longest = long_set();
     bool lisp = lisp_start(out, r.sets, SETS);
     list_implementations(&r, lisp);
@@ -287,9 +315,11 @@ int main(int count, char **arguments)
     check_listing(&r);
     printf("bench: all agree\n\n");
     time_all(&r);
-    time_reading(&r.readings[0], &r.sets[0], r.rounds);
-    time_reading(&r.readings[1], &r.sets[1], r.rounds);
-    time_reading(&r.readings[2], &longest, r.rounds);
+    for (int s = 0; s < DISTINCT_SETS; s++)
+        time_distinct(&r.distincts[s], &r.distinct[s], r.rounds);
+    for (int s = 0; s < SETS; s++)
+        time_reading(&r.readings[s], &r.sets[s], r.rounds);
+    time_reading(&r.readings[SETS], &longest, r.rounds);
     time_derivations(&r);
     time_listing(&r);
     probe_stacks(&r, &longest);

@@ -7,6 +7,8 @@
 #include <sys/wait.h>
 #include <unistd.h>
 
+enum { MOST_SETS = 8 };
+
 static FILE *to, *from;
 static pid_t child;
 
@@ -22,14 +24,16 @@ static void write_set(const char *path, const question_set *set)
 
 bool lisp_start(const char *directory, const question_set *sets, int count)
 {
-    char program[512], path[2][512];
-    const char *sbcl = getenv("BENCH_SBCL");
-    if (!sbcl || !*sbcl || count != 2)
+    char program[512], path[MOST_SETS][512], *arguments[MOST_SETS + 5] = { 0 };
+    char *sbcl = getenv("BENCH_SBCL");
+    if (!sbcl || !*sbcl || count > MOST_SETS)
         return false;
     snprintf(program, sizeof program, "%s/../dr34.lisp", directory);
+    arguments[0] = sbcl, arguments[1] = "--script", arguments[2] = program, arguments[3] = "sets";
     for (int i = 0; i < count; i++) {
         snprintf(path[i], sizeof path[i], "%s/%s.lisp", directory, sets[i].name);
         write_set(path[i], &sets[i]);
+        arguments[4 + i] = path[i];
     }
     int in[2], out[2];
     if (pipe2(in, O_CLOEXEC) || pipe2(out, O_CLOEXEC))
@@ -39,7 +43,7 @@ bool lisp_start(const char *directory, const question_set *sets, int count)
     if (child == 0) {
         dup2(in[0], 0);
         dup2(out[1], 1);
-        execlp(sbcl, sbcl, "--script", program, path[0], path[1], (char *)0);
+        execvp(sbcl, arguments);
         _exit(127);
     }
     close(in[0]);

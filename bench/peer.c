@@ -1,6 +1,6 @@
-// Document 01's tree, written by hand and unproved, twice over the same running sequent: `peer_value` copies it for each
-// premise; `peer_best` changes it in place, copies only where a rule has two premises, and carries along how far each
-// side is letters only.
+// Document 01's tree, closed on equal formulas as 02's c asks, written by hand and unproved, twice over the same running
+// sequent: `peer_value` copies it for each premise; `peer_best` changes it in place, copies only where a rule has two
+// premises, and carries along how far each side is letters only.
 #include "peer.h"
 #include <stdbool.h>
 #include <string.h>
@@ -8,7 +8,7 @@
 // Formulas are start places in the question: the left side from the front, the right side from the back.
 typedef struct {
     uint8_t items[MOST_FORMULAS];
-    uint32_t letters[2];
+    uint64_t marks[2]; // of the formulas that stand on each side; it closes where they meet
     uint8_t left, right;
     uint8_t left_letters_to, right_letters_to; // peer_best only: all before these places are letters
 } sequent;
@@ -16,6 +16,7 @@ typedef struct {
 typedef struct {
     const uint8_t *question;
     uint8_t second[MOST_BYTES];
+    uint64_t mark[MOST_BYTES];
     uint64_t budget, reductions, closings;
     uint32_t number, state;
     bool refuted;
@@ -24,11 +25,7 @@ typedef struct {
 // By connective and side: by how many formulas a premise grows at most.
 static const uint8_t grows[7][2] = { [AND] = { 1, 0 }, [OR] = { 0, 1 }, [IMPLIES] = { 0, 1 }, [EQUIV] = { 1, 1 } };
 
-static inline void mark(const run *r, sequent *s, int side, uint8_t f)
-{
-    if (r->question[f] == LETTER)
-        s->letters[side] |= 1u << r->question[f + 1];
-}
+static inline void mark(const run *r, sequent *s, int side, uint8_t f) { s->marks[side] |= r->mark[f]; }
 
 static inline void append_left(const run *r, sequent *s, uint8_t f)
 {
@@ -158,6 +155,22 @@ static inline void premise_right(const run *r, sequent *s, int at, uint8_t x, bo
     }
 }
 
+static bool stands_again(const run *r, const sequent *s, int side, int at, uint64_t mark)
+{
+    int count = side ? s->right : s->left;
+    while (++at < count)
+        if (r->mark[s->items[side ? MOST_FORMULAS - 1 - at : at]] == mark)
+            return true;
+    return false;
+}
+
+// The mark that goes with x, the first compound of its side, when it is reduced: none if an equal one stands there too.
+static inline uint64_t leaving(const run *r, const sequent *s, int side, int at, uint8_t x)
+{
+    uint64_t mark = r->mark[x];
+    return mark && !stands_again(r, s, side, at, mark) ? mark : 0;
+}
+
 static inline bool two_premises(uint8_t connective, int side)
 {
     return connective == EQUIV || connective == (side ? AND : OR) || (connective == IMPLIES && !side);
@@ -188,7 +201,7 @@ static inline bool may_reduce(run *r, const sequent *s, uint8_t connective, int 
 // Whether every sequent from s on closes.
 static bool prove_value(run *r, const sequent *s)
 {
-    if (s->letters[0] & s->letters[1]) {
+    if (s->marks[0] & s->marks[1]) {
         r->closings++;
         return true;
     }
@@ -196,12 +209,14 @@ static bool prove_value(run *r, const sequent *s)
     if (side)
         at = first_compound_right(r, s, 0);
     if (side && at == s->right)
-        return open_sequent(r, s->letters[0]);
+        return open_sequent(r, s->marks[0]);
     uint8_t x = s->items[side ? MOST_FORMULAS - 1 - at : at], connective = r->question[x];
     if (!may_reduce(r, s, connective, side))
         return false;
+    uint64_t leaves = leaving(r, s, side, at, x);
     for (int second = 0; second <= two_premises(connective, side); second++) {
         sequent p = *s;
+        p.marks[side] ^= leaves;
         if (side)
             premise_right(r, &p, at, x, second);
         else
@@ -215,7 +230,7 @@ static bool prove_value(run *r, const sequent *s)
 static bool prove_best(run *r, sequent *s)
 {
     for (;;) {
-        if (s->letters[0] & s->letters[1]) {
+        if (s->marks[0] & s->marks[1]) {
             r->closings++;
             return true;
         }
@@ -223,11 +238,12 @@ static bool prove_best(run *r, sequent *s)
         if (side)
             at = s->right_letters_to = first_compound_right(r, s, s->right_letters_to);
         if (side && at == s->right)
-            return open_sequent(r, s->letters[0]);
+            return open_sequent(r, s->marks[0]);
         uint8_t x = s->items[side ? MOST_FORMULAS - 1 - at : at], connective = r->question[x];
         if (!may_reduce(r, s, connective, side))
             return false;
         bool two = two_premises(connective, side);
+        s->marks[side] ^= leaving(r, s, side, at, x);
         if (two) {
             sequent p = *s;
             if (side)
@@ -256,7 +272,7 @@ static uint32_t begin(const uint8_t *question, size_t length, uint64_t budget, u
     r->budget = budget;
     r->reductions = r->closings = 0;
     r->number = r->state = r->refuted = 0;
-    second_parts(question, &read, r->second);
+    parts_and_marks(question, &read, r->second, r->mark);
     memset(s, 0, sizeof *s);
     for (int i = 0; i < read.formulas[0]; i++)
         append_left(r, s, read.starts[0][i]);

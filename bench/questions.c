@@ -20,6 +20,9 @@ typedef struct {
     uint64_t least_reductions, most_reductions;
 } size;
 
+enum { LEAST_CONDITION = 10, MOST_CONDITION = 20 }; // connectives
+enum { FIRST_CONDITION = 3 };                       // the families of conditions_set are numbered from here on
+
 static uint64_t seed;
 static formula arena[4096];
 static int used;
@@ -118,6 +121,40 @@ static const formula *rule(int letters)
     return two(below(4) ? IMPLIES : EQUIV, if_, then);
 }
 
+// A condition with one or two literals beside it.
+static const formula *larger(const formula *condition, int letters)
+{
+    const formula *other = below(2) ? literal(letters) : two_literals(between(AND, OR), letters);
+    int connective = between(AND, EQUIV);
+    return below(2) ? two(connective, condition, other) : two(connective, other, condition);
+}
+
+// A condition implies, or is equivalent to, one or two literals.
+static const formula *rule_on(const formula *condition, int letters)
+{
+    const formula *then = below(2) ? literal(letters) : two_literals(between(AND, OR), letters);
+    return two(below(4) ? IMPLIES : EQUIV, condition, then);
+}
+
+// The same long condition on both sides, rules before it on the left and after it on the right. It stands as it is on both
+// sides (family 0), in a larger formula on the left (1), or in a rule on each side (2).
+static void conditions(sequent *s, int family, int connectives, int letters)
+{
+    int most = (connectives - 4) / 2 < MOST_CONDITION ? (connectives - 4) / 2 : MOST_CONDITION;
+    const formula *condition = random_formula(between(LEAST_CONDITION, most), letters), *left = condition;
+    const formula *right = family == 2 ? rule_on(condition, letters) : condition;
+    if (family > 0)
+        left = family == 2 ? rule_on(condition, letters) : larger(condition, letters);
+    int spare = connectives - connectives_of(left) - connectives_of(right);
+    add(s, 1, right);
+    while (spare > 1) {
+        const formula *more = rule(letters);
+        add(s, below(3) == 0, more);
+        spare -= connectives_of(more);
+    }
+    add(s, 0, left);
+}
+
 // Do the rules exclude the conditions A and B at once?
 static void exclusion(sequent *s, int connectives, int letters)
 {
@@ -213,7 +250,9 @@ static sequent proposal(int family, const size *z)
     used = 0;
     int connectives = between(z->least_connectives, z->most_connectives);
     int letters = between(z->least_letters, z->most_letters);
-    if (family == 0)
+    if (family >= FIRST_CONDITION)
+        conditions(&s, family - FIRST_CONDITION, connectives, letters);
+    else if (family == 0)
         exclusion(&s, connectives, letters);
     else if (family == 1)
         rewriting(&s, connectives, letters);
@@ -223,7 +262,7 @@ static sequent proposal(int family, const size *z)
 }
 
 // One question of the wanted verdict. Where the size has a least tree, each question draws its own least, 1 to 32 times
-// that, and its tree is at most four times its least.
+// that, and its tree, closed by letters alone, is at most four times its least.
 static void choose(question *q, int family, bool refuted, const size *z)
 {
     uint64_t out[4], least = z->least_reductions, most = z->most_reductions;
@@ -236,7 +275,7 @@ static void choose(question *q, int family, bool refuted, const size *z)
         if (!fits(&s, z))
             continue;
         encode(&s, q);
-        uint32_t number = peer_sets_decide(q->bytes, q->length, most, out);
+        uint32_t number = peer_sets_closing(q->bytes, q->length, most, ONLY_LETTERS, out);
         if (number == 0 && out[0] == refuted && out[2] >= least)
             return;
     }
@@ -248,6 +287,14 @@ static question_set set_of(const char *name, const char *title, int count)
                            .questions = calloc(count, sizeof(question)), .answers = calloc(count, sizeof(uint64_t[4])) };
 }
 
+// The reductions if a compound closes only when it has at least so many connectives.
+static uint64_t reductions_of(const question *q, int least)
+{
+    uint64_t out[4];
+    peer_sets_closing(q->bytes, q->length, BUDGET, least, out);
+    return out[2];
+}
+
 static void answer_all(question_set *set)
 {
     for (int i = 0; i < set->count; i++) {
@@ -255,6 +302,7 @@ static void answer_all(question_set *set)
         peer_value_decide(q->bytes, q->length, BUDGET, set->answers[i]);
         set->reductions += set->answers[i][2];
         set->refuted += set->answers[i][0];
+        set->only_letters += reductions_of(q, ONLY_LETTERS);
     }
 }
 
@@ -277,6 +325,47 @@ question_set limits_set(void)
 {
     size z = { 36, 48, 6, 20, 16, 2000, 300000 };
     return chosen(set_of("limits", "Questions near the limits", LIMITS_QUESTIONS), 1960, &z);
+}
+
+// One question of the wanted verdict that a condition closes: there are fewer reductions than with letters alone.
+static void choose_closed(question *q, int family, bool refuted, const size *z)
+{
+    do
+        choose(q, family, refuted, z);
+    while (reductions_of(q, LEAST_CONDITION) == reductions_of(q, ONLY_LETTERS));
+}
+
+// A third each: the condition as it is on both sides, which are theorems, in a larger formula on the left, and in a rule on
+// each side; of these two every second one is refuted.
+question_set conditions_set(void)
+{
+    size z = { 24, 48, 4, 12, 16, 0, 10000 };
+    question_set set = set_of("conditions", "Equal conditions", CONDITION_QUESTIONS);
+    seed = 42;
+    for (int i = 0; i < set.count; i++)
+        choose_closed(&set.questions[i], FIRST_CONDITION + i % 3, i % 3 > 0 && i / 3 % 2, &z);
+    answer_all(&set);
+    return set;
+}
+
+static bool has_equal_compounds(const question *q)
+{
+    reading r;
+    uint8_t second[MOST_BYTES];
+    uint64_t mark[MOST_BYTES];
+    peer_read(q->bytes, q->length, &r);
+    return parts_and_marks(q->bytes, &r, second, mark) > 0;
+}
+
+question_set distinct_of(const question_set *set, const char *title)
+{
+    question_set distinct = set_of("distinct", title, set->count);
+    distinct.count = 0;
+    for (int i = 0; i < set->count; i++)
+        if (!has_equal_compounds(&set->questions[i]))
+            distinct.questions[distinct.count++] = set->questions[i];
+    answer_all(&distinct);
+    return distinct;
 }
 
 // 16 formulas a side, 48 connectives with two parts each.

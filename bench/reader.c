@@ -1,5 +1,6 @@
 // Document 01's reader with refusals 1 to 7.
 #include "peer.h"
+#include <string.h>
 
 typedef struct {
     const uint8_t *bytes;
@@ -137,4 +138,60 @@ void second_parts(const uint8_t *question, const reading *r, uint8_t second[MOST
         }
         starts[top - 1] = at;
     }
+}
+
+enum { SLOTS = 128 };
+
+// The compounds met so far, each once and numbered from 1 on.
+typedef struct {
+    uint8_t slot[SLOTS];                 // by hash: a number, or 0
+    uint32_t node[MOST_CONNECTIVES + 1]; // the connective with the names of its parts
+    uint8_t first[MOST_CONNECTIVES + 1]; // where it was met first
+    uint32_t count;
+} compounds;
+
+static inline uint32_t number_of(compounds *c, uint32_t node, uint8_t at)
+{
+    uint32_t slot = node * 0x9e3779b1u >> 25;
+    while (c->slot[slot] && c->node[c->slot[slot]] != node)
+        slot = (slot + 1) % SLOTS;
+    if (c->slot[slot])
+        return c->slot[slot];
+    c->slot[slot] = ++c->count;
+    c->node[c->count] = node;
+    c->first[c->count] = at;
+    return c->count;
+}
+
+// As second_parts, with the names of the formulas that wait: a letter's own number, or LETTERS and a compound's number.
+uint32_t parts_and_marks(const uint8_t *question, const reading *r, uint8_t second[MOST_BYTES], uint64_t mark[MOST_BYTES])
+{
+    compounds c;
+    uint8_t starts[MOST_BYTES], names[MOST_BYTES];
+    uint32_t top = 0, shared = 0;
+    memset(c.slot, 0, sizeof c.slot);
+    c.count = 0;
+    for (int i = r->commands - 1; i >= 0; i--) {
+        uint8_t at = r->command[i], command = question[at];
+        if (command == LETTER) {
+            starts[top] = at;
+            names[top++] = question[at + 1];
+            mark[at] = 1ull << question[at + 1];
+            continue;
+        }
+        uint32_t node = command | names[top - 1] << 8;
+        if (command != NOT) {
+            second[at] = starts[top - 2];
+            node |= names[top - 2] << 16;
+            top--;
+        }
+        uint32_t number = number_of(&c, node, at);
+        uint8_t first = c.first[number];
+        if (first != at && !mark[first])
+            mark[first] = 1ull << (LETTERS + shared++);
+        mark[at] = first == at ? 0 : mark[first];
+        starts[top - 1] = at;
+        names[top - 1] = LETTERS + number;
+    }
+    return shared;
 }

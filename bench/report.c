@@ -18,8 +18,9 @@ static void write_set(FILE *file, const results *r, int s)
     const question_set *set = &r->sets[s];
     double ours = r->implementations[0].best[s];
     fprintf(file, "## %s\n\n", set->title);
-    fprintf(file, "%d questions, %d of them refuted; %.0f reductions a question on average.\n\n", set->count,
+    fprintf(file, "%d questions, %d of them refuted; %.0f reductions a question on average, ", set->count,
             (int)set->refuted, (double)set->reductions / set->count);
+    fprintf(file, "%.0f if only letters closed.\n\n", (double)set->only_letters / set->count);
     fprintf(file, "| implementation | what | a question | a reduction | median | gekunday / it |\n");
     fprintf(file, "|---|---|---:|---:|---:|---:|\n");
     for (int k = 0; k < r->count; k++) {
@@ -27,7 +28,7 @@ static void write_set(FILE *file, const results *r, int s)
         char best[32], median[32], reduction[32] = "";
         format_time(best, sizeof best, m->best[s]);
         format_time(median, sizeof median, m->median[s]);
-        if (m->tree)
+        if (m->agrees == TREE)
             format_time(reduction, sizeof reduction, m->best[s] * set->count / set->reductions);
         fprintf(file, "| %s | %s | %s | %s | %s | %.2f |\n", m->name, m->note, best, reduction, median,
                 ours / m->best[s]);
@@ -60,8 +61,8 @@ static void write_headline(FILE *file, const results *r)
     static const char *const listers[] = { "peer_each", "peer_table", "peer_words", "peer_levels" };
     fprintf(file, "Against the faster build of each C peer:\n\n");
     for (int i = 0; i < 3; i++)
-        fprintf(file, "- %s: **%.2f** on editor-size questions, **%.2f** near the limits\n", peers[i],
-                ratio(r, 0, peers[i]), ratio(r, 1, peers[i]));
+        fprintf(file, "- %s: **%.2f** on editor-size questions, **%.2f** near the limits, **%.2f** on equal conditions\n",
+                peers[i], ratio(r, EDITOR, peers[i]), ratio(r, LIMITS, peers[i]), ratio(r, CONDITIONS, peers[i]));
     for (int i = 0; i < 4; i++)
         fprintf(file, "- %s: **%.2f** on listing the states\n", listers[i], listing_ratio(r, listers[i]));
     fprintf(file, "\n");
@@ -80,6 +81,33 @@ static void write_listing(FILE *file, const results *r)
         format_time(best, sizeof best, l->best);
         format_time(median, sizeof median, l->median);
         fprintf(file, "| %s | %s | %s | %s | %.2f |\n", l->name, l->note, best, median, r->listers[0].best / l->best);
+    }
+    fprintf(file, "\n");
+}
+
+static void write_distinct(FILE *file, const results *r)
+{
+    fprintf(file, "## Without equal compounds\n\n");
+    fprintf(file, "| questions | gekunday | peer_value, faster build | gekunday / peer_value |");
+#ifdef WITH_BEFORE
+    fprintf(file, " before | gekunday / before |");
+#endif
+    fprintf(file, "\n|---|---:|---:|---:|");
+#ifdef WITH_BEFORE
+    fprintf(file, "---:|---:|");
+#endif
+    fprintf(file, "\n");
+    for (int s = 0; s < DISTINCT_SETS; s++) {
+        const distinct_time *t = &r->distincts[s];
+        char ours[32], before[32], peer[32];
+        format_time(ours, sizeof ours, t->ours);
+        format_time(before, sizeof before, t->before);
+        format_time(peer, sizeof peer, t->peer);
+        fprintf(file, "| %s (%d) | %s | %s | %.2f |", t->set->title, t->set->count, ours, peer, t->ours / t->peer);
+#ifdef WITH_BEFORE
+        fprintf(file, " %s | %.2f |", before, t->ours / t->before);
+#endif
+        fprintf(file, "\n");
     }
     fprintf(file, "\n");
 }
@@ -110,7 +138,7 @@ static void write_derivations(FILE *file, const results *r)
     fprintf(file, "---:|---:|");
 #endif
     fprintf(file, "\n");
-    for (int s = 0; s < SETS; s++) {
+    for (int s = 0; s < SETS + DISTINCT_SETS; s++) {
         const derivation_time *t = &r->derivations[s];
         char decide[32], derive[32], check[32];
         format_time(decide, sizeof decide, t->decide);
@@ -132,6 +160,7 @@ void write_table(FILE *file, const results *r)
     write_headline(file, r);
     for (int s = 0; s < SETS; s++)
         write_set(file, r, s);
+    write_distinct(file, r);
     write_listing(file, r);
     write_readings(file, r);
     write_derivations(file, r);
@@ -186,7 +215,7 @@ static void write_bars(FILE *file, const results *r, int s, scale c, double top)
 {
     for (int k = 0; k < r->count; k++) {
         const implementation *m = &r->implementations[k];
-        const char *class = k == 0 ? "ours" : m->tree ? "tree" : "other";
+        const char *class = k == 0 ? "ours" : m->agrees == TREE ? "tree" : "other";
         double y = top + k * ROW, x = x_of(c, m->best[s]);
         char text[32];
         format_time(text, sizeof text, m->best[s]);

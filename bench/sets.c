@@ -1,26 +1,31 @@
-// Document 01's tree with the running sequent as sets of connectives: nothing is copied from list to list.
+// Document 01's tree, closed on equal formulas as 02's c asks, with the running sequent as sets of connectives: nothing is
+// copied from list to list.
 //
 // Number the connectives of the question by place. Letters matter only as the set of each side, so a side is a list of
 // compound formulas, each named by its connective's number. On the left that list is always in rising order: parts that
 // keep their side take their formula's place, and a formula comes to the left only while no compound is there, one at a
 // time. So the left is a set of 64 bits whose lowest is due. The right is such a set too, what is left of its first
 // formula, and after it a queue. A premise writes only behind the queue's end, so what waits for its turn stays as it was.
+// Beside them each side has the marks of the letters and compounds that stand on it.
 #include "peer.h"
+#include <stdbool.h>
+#include <string.h>
 
 typedef struct {
-    uint64_t left, first; // compound formulas: of the left, and of the right before the queue
-    uint32_t letters[2];
+    uint64_t left, first;       // compound formulas: of the left, and of the right before the queue
+    uint64_t marks[2];          // of the formulas that stand on each side; it closes where they meet
     uint8_t from, to, formulas; // the queue's bounds, and all formulas, letters too
 } sequent;
 
 typedef struct {
     uint64_t left, first;
-    uint32_t letters[2];
+    uint64_t marks[2];
     uint8_t behind[2], count; // to the queue
 } placements;
 
 typedef struct {
     placements premise[2];
+    uint64_t mark; // the reduced formula's
     uint8_t premises, grows;
 } rule;
 
@@ -32,6 +37,7 @@ typedef struct {
 typedef struct {
     const uint8_t *question;
     uint8_t second[MOST_BYTES], number[MOST_BYTES];
+    uint64_t mark[MOST_BYTES], equal[MOST_SHARED]; // by place; and by a compound's mark the connectives that have it
     rule rules[MOST_CONNECTIVES][2];
     uint8_t queue[MOST_BYTES];
 } tables;
@@ -41,9 +47,10 @@ enum { TO_LEFT, TO_RIGHT, TO_END };
 
 static inline void put(const tables *t, placements *p, uint8_t f, int where)
 {
+    p->marks[where != TO_LEFT] |= t->mark[f];
     if (t->question[f] == LETTER)
-        p->letters[where != TO_LEFT] |= 1u << t->question[f + 1];
-    else if (where == TO_LEFT)
+        return;
+    if (where == TO_LEFT)
         p->left |= 1ull << t->number[f];
     else if (where == TO_RIGHT)
         p->first |= 1ull << t->number[f];
@@ -51,11 +58,20 @@ static inline void put(const tables *t, placements *p, uint8_t f, int where)
         p->behind[p->count++] = t->number[f];
 }
 
+static inline void begin(rule *x, uint64_t mark)
+{
+    x->premise[0] = x->premise[1] = (placements){ 0 };
+    x->mark = mark;
+    x->premises = 1;
+    x->grows = 0;
+}
+
 static void rules_of(tables *t, uint8_t at)
 {
     rule *l = &t->rules[t->number[at]][0], *r = &t->rules[t->number[at]][1];
     uint8_t f = at + 1, g = t->second[at];
-    *l = *r = (rule){ .premises = 1 };
+    begin(l, t->mark[at]);
+    begin(r, t->mark[at]);
     switch (t->question[at]) {
     case NOT:
         put(t, &l->premise[0], f, TO_END);
@@ -89,32 +105,48 @@ static inline sequent placed(tables *t, sequent s, const placements *p)
 {
     s.left |= p->left;
     s.first |= p->first;
-    s.letters[0] |= p->letters[0];
-    s.letters[1] |= p->letters[1];
+    s.marks[0] |= p->marks[0];
+    s.marks[1] |= p->marks[1];
     t->queue[s.to] = p->behind[0];
     t->queue[s.to + 1] = p->behind[1];
     s.to += p->count;
     return s;
 }
 
-// Takes the due formula out of the sequent and answers its rule, or none if the sequent is open.
+// The connectives that have the mark of the formula reduced.
+static inline uint64_t equal_to(const tables *t, const rule *due) { return t->equal[__builtin_ctzll(due->mark) - LETTERS]; }
+
+// Whether one of these connectives is in the queue.
+static bool queued(const tables *t, int from, int to, uint64_t connectives)
+{
+    while (from < to && !(connectives >> t->queue[from] & 1))
+        from++;
+    return from < to;
+}
+
+// Takes the due formula out of the sequent and answers its rule, or none if the sequent is open. Its mark goes with it
+// unless an equal formula still stands on that side.
 static inline const rule *due_rule(const tables *t, sequent *s)
 {
-    int number;
+    const rule *due;
     if (s->left) {
-        number = __builtin_ctzll(s->left);
+        due = &t->rules[__builtin_ctzll(s->left)][0];
         s->left &= s->left - 1;
-        return &t->rules[number][0];
+        if (due->mark && !(s->left & equal_to(t, due)))
+            s->marks[0] ^= due->mark;
+        return due;
     }
     if (s->first) {
-        number = __builtin_ctzll(s->first);
+        due = &t->rules[__builtin_ctzll(s->first)][1];
         s->first &= s->first - 1;
     } else if (s->from < s->to) {
-        number = t->queue[s->from++];
+        due = &t->rules[t->queue[s->from++]][1];
     } else {
         return 0;
     }
-    return &t->rules[number][1];
+    if (due->mark && !(s->first & equal_to(t, due)) && !queued(t, s->from, s->to, equal_to(t, due)))
+        s->marks[1] ^= due->mark;
+    return due;
 }
 
 static uint32_t prove(tables *t, sequent s, uint64_t budget, uint64_t out[4])
@@ -123,7 +155,7 @@ static uint32_t prove(tables *t, sequent s, uint64_t budget, uint64_t out[4])
     uint32_t depth = 0, number = 0;
     uint64_t reductions = 0, closings = 0;
     for (;;) {
-        if (s.letters[0] & s.letters[1]) {
+        if (s.marks[0] & s.marks[1]) {
             closings++;
             if (depth == 0)
                 break;
@@ -133,7 +165,7 @@ static uint32_t prove(tables *t, sequent s, uint64_t budget, uint64_t out[4])
         }
         const rule *due = due_rule(t, &s);
         if (!due) {
-            out[0] = 1, out[1] = s.letters[0];
+            out[0] = 1, out[1] = s.marks[0];
             break;
         }
         s.formulas += due->grows;
@@ -161,7 +193,38 @@ static sequent root(tables *t, const reading *read)
     return placed(t, s, &p);
 }
 
-uint32_t peer_sets_decide(const uint8_t *question, size_t length, uint64_t budget, uint64_t out[4])
+// The connectives of the formula at a place.
+static int connectives_at(const uint8_t *question, uint8_t at)
+{
+    int connectives = 0;
+    for (int due = 1; due > 0; at++) {
+        if (question[at] == LETTER) {
+            at++;
+            due--;
+        } else {
+            connectives++;
+            due += question[at] != NOT;
+        }
+    }
+    return connectives;
+}
+
+// Numbers the connectives and notes which have the same mark; a compound with fewer connectives than `least` loses its own.
+static inline void number_connectives(tables *t, const reading *read, int least)
+{
+    for (int i = 0, n = 0; i < read->commands; i++) {
+        uint8_t at = read->command[i];
+        if (t->question[at] == LETTER)
+            continue;
+        if (least > 0 && t->mark[at] && connectives_at(t->question, at) < least)
+            t->mark[at] = 0;
+        if (t->mark[at])
+            t->equal[__builtin_ctzll(t->mark[at]) - LETTERS] |= 1ull << n;
+        t->number[at] = n++;
+    }
+}
+
+uint32_t peer_sets_closing(const uint8_t *question, size_t length, uint64_t budget, int least, uint64_t out[4])
 {
     reading read;
     tables t;
@@ -171,12 +234,16 @@ uint32_t peer_sets_decide(const uint8_t *question, size_t length, uint64_t budge
         return read.number;
     }
     t.question = question;
-    second_parts(question, &read, t.second);
-    for (int i = 0, n = 0; i < read.commands; i++)
-        if (question[read.command[i]] != LETTER)
-            t.number[read.command[i]] = n++;
+    uint32_t shared = parts_and_marks(question, &read, t.second, t.mark);
+    memset(t.equal, 0, shared * sizeof *t.equal);
+    number_connectives(&t, &read, least);
     for (int i = 0; i < read.commands; i++)
         if (question[read.command[i]] != LETTER)
             rules_of(&t, read.command[i]);
     return prove(&t, root(&t, &read), budget, out);
+}
+
+uint32_t peer_sets_decide(const uint8_t *question, size_t length, uint64_t budget, uint64_t out[4])
+{
+    return peer_sets_closing(question, length, budget, 0, out);
 }

@@ -89,26 +89,47 @@ static bool has_most_connectives(const question *q)
     return peer_read(q->bytes, q->length, &r) == 0 && r.connectives == MOST_CONNECTIVES;
 }
 
-// 48 connectives nested as deep as they go, in the first part or the last: in one formula on the right, or 24 on each side
-// in equal formulas, a theorem.
+static void probe_set(probe *p, const question_set *set, stack_use stacks[CALLS])
+{
+    for (int i = 0; i < set->count; i++)
+        if (has_most_connectives(&set->questions[i]))
+            probe_question(p, &set->questions[i], stacks);
+}
+
+static void put_letter(question *q, int letter)
+{
+    q->bytes[q->length++] = LETTER;
+    q->bytes[q->length++] = letter;
+}
+
+// Connectives nested so deep, in the first part or the last, with a letter of their own innermost.
+static void put_nested(question *q, int connective, bool last, int deep, int innermost)
+{
+    for (int i = 0; i < deep; i++) {
+        q->bytes[q->length++] = connective;
+        if (last && connective != NOT)
+            put_letter(q, i % 8);
+    }
+    put_letter(q, innermost);
+    for (int i = 0; i < deep && !last && connective != NOT; i++)
+        put_letter(q, i % 8);
+}
+
+// 48 connectives nested as deep as they go: in one formula on the right, or 24 on each side. These two have different
+// letters innermost, so that no compound stands in both, and both letters stand on the left too, so that it is a theorem.
 static question nested(int connective, bool last, bool both)
 {
     question q = { .length = 0 };
-    int deep = both ? MOST_CONNECTIVES / 2 : MOST_CONNECTIVES;
-    for (int side = 0; side < 2; side++) {
-        q.bytes[q.length++] = side ? RIGHT_SIDE : LEFT_SIDE;
-        q.bytes[q.length++] = side || both;
-        if (!side && !both)
-            continue;
-        for (int i = 0; i < deep; i++) {
-            q.bytes[q.length++] = connective;
-            if (last && connective != NOT)
-                q.bytes[q.length++] = LETTER, q.bytes[q.length++] = i % 8;
-        }
-        q.bytes[q.length++] = LETTER, q.bytes[q.length++] = 9;
-        for (int i = 0; i < deep && !last && connective != NOT; i++)
-            q.bytes[q.length++] = LETTER, q.bytes[q.length++] = i % 8;
+    q.bytes[q.length++] = LEFT_SIDE;
+    q.bytes[q.length++] = both ? 3 : 0;
+    if (both) {
+        put_letter(&q, 8);
+        put_letter(&q, 9);
+        put_nested(&q, connective, last, MOST_CONNECTIVES / 2, 8);
     }
+    q.bytes[q.length++] = RIGHT_SIDE;
+    q.bytes[q.length++] = 1;
+    put_nested(&q, connective, last, both ? MOST_CONNECTIVES / 2 : MOST_CONNECTIVES, 9);
     return q;
 }
 
@@ -116,7 +137,7 @@ void probe_stacks(results *r, const question_set *longest)
 {
     static const char *const names[] = { "gekunday_decide", "gekunday_derive", "gekunday_check", "gekunday_width",
                                          "gekunday_states" };
-    const question_set *limits = &r->sets[1], *listed = &r->listed;
+    const question_set *listed = &r->listed;
     stack_use *stacks = r->stacks;
     probe p = { .stack = mmap(0, STACK, PROT_READ | PROT_WRITE, MAP_PRIVATE | MAP_ANONYMOUS, -1, 0),
                 .buffer = malloc(ROOM), .states = malloc(MOST_STATES * sizeof(uint32_t)) };
@@ -127,9 +148,8 @@ void probe_stacks(results *r, const question_set *longest)
             question q = nested(connective, way & 1, way & 2);
             probe_question(&p, &q, stacks);
         }
-    for (int i = 0; i < limits->count; i++)
-        if (has_most_connectives(&limits->questions[i]))
-            probe_question(&p, &limits->questions[i], stacks);
+    probe_set(&p, &r->sets[LIMITS], stacks);
+    probe_set(&p, &r->sets[CONDITIONS], stacks);
     for (int i = 0; i < listed->count; i++) {
         p.question = &listed->questions[i];
         if (has_most_connectives(p.question))
