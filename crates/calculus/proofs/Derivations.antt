@@ -82,6 +82,15 @@ pairs-whole x = go (x .connective) (x .f) (x .g)
     go NOT y z = rw (same-self y)
     go (two b) y z = rw (same-self (join b y z))
 
+differ : (x y : Formula) → (x ≡ y → ⊥) → same x y ≡ false
+differ x y h = not-so (same x y) (λ e. h (same-eq x y e))
+
+-- "the two formulas named by 42 differ or are letters"
+pub equals-not : (x y : Formula) → (x ≡ y → Letter x) → equals x y ≡ fault NOT-EQUAL
+equals-not (letter k) y h = refl
+equals-not (neg x) y h = rw (differ (neg x) y h)
+equals-not (join b x z) y h = rw (differ (join b x z) y h)
+
 -- a command of two bytes leaves what it says, whatever follows
 abbrev following : List ℕ → Option ℕ
 following [] = none
@@ -119,13 +128,13 @@ derivations-split (P ∷ Ps) Qs ds (then {es = hs} {fs = ks} d e h) =
     (hs ++ r .0, r .1, then d (r .2) refl, r .3, h ∙ ap (λ (l : List ℕ). hs ++ l) (r .4) ∙ sym (append-assoc hs (r .0) (r .1)))
 
 -- what a command leaves waiting
-abbrev Obeyed : Sequent → ℕ → ℕ → Option ℕ → Move → Type 0
+abbrev pub Obeyed : Sequent → ℕ → ℕ → Option ℕ → Move → Type 0
 Obeyed S b i o (fault n) = Unit {0}
 Obeyed S b i o (waiting Qs) = (ds : List ℕ) → Derivations Qs ds → Derivation S (b ∷ i ∷ ds)
 Obeyed S b i none shut = ⊥
 Obeyed S b i (some j) shut = Derivation S (b ∷ i ∷ j ∷ [])
 
-obeyed : (b i : ℕ) (o : Option ℕ) (S : Sequent) → Obeyed S b i o (obey (order b) i o S)
+pub obeyed : (b i : ℕ) (o : Option ℕ) (S : Sequent) → Obeyed S b i o (obey (order b) i o S)
 obeyed b i o S = go (order b) refl o
   where
     none-more : (ds : List ℕ) → Derivations [] ds → ds ≡ []
@@ -238,18 +247,10 @@ pair-missing i j bs P Ps at (inr e) = rw e (go (getElem? (P .on-left) i))
     go none = refl
     go (some x) = refl
 
--- "then 26": "the two formulas named by 42 differ or are letters"
+-- "then 26"
 pub pair-differs : (i j : ℕ) (bs : List ℕ) (P : Sequent) (Ps : List Sequent) (at : ℕ) (x y : Formula) → getElem? (P .on-left) i ≡ some x
     → getElem? (P .on-right) j ≡ some y → (x ≡ y → Letter x) → check (orderCode PAIR ∷ i ∷ j ∷ bs) (P ∷ Ps) at ≡ faulty NOT-EQUAL at
-pair-differs i j bs P Ps at x y p q h = rw (p, q, go x h)
-  where
-    differ : (x : Formula) → (x ≡ y → ⊥) → same x y ≡ false
-    differ x h = not-so (same x y) (λ e. h (same-eq x y e))
-
-    go : (x : Formula) → (x ≡ y → Letter x) → equals x y ≡ fault NOT-EQUAL
-    go (letter k) h = refl
-    go (neg x) h = rw (differ (neg x) h)
-    go (join b x z) h = rw (differ (join b x z) h)
+pair-differs i j bs P Ps at x y p q h = rw (p, q, equals-not x y h)
 
 -- ---- the run writes a derivation of each theorem
 

@@ -14,15 +14,18 @@ use Rattle.calculus.specs.Limits.{LETTERS}
 use Rattle.calculus.specs.Syntax.{Connective}
 use Rattle.calculus.specs.Bytes.{CONNECTIVE, code}
 use Rattle.calculus.specs.Truth.{bit}
-use Rattle.calculus.specs.Derivation.{Order as Command, CLOSE, REDUCE, orderCode, order}
+use Rattle.calculus.specs.Derivation.{Order as Command, CLOSE, PAIR, REDUCE, orderCode, order}
 use Rattle.calculus.proofs.Spelling.{command-byte}
 use Rattle.calculus.proofs.Derivations.{order-code, order-byte}
 use Rattle.question.proofs.Readers.{connects, connective-range}
-use Rattle.checker.specs.declared.Order.the-variants.{Close, Reduce, Unknown}
+use Rattle.checker.specs.declared.Order.the-variants.{Close, Pair, Reduce, Unknown}
 use Rattle.checker.specs.Walks.{orderOf}
 
 pub order-close : (b : ℕ) → b ≡ 0x41 → orderOf (order b) ≡ Close
 order-close b e = rw e
+
+pub order-pair : (b : ℕ) → b ≡ 0x42 → orderOf (order b) ≡ Pair
+order-pair b e = rw e
 
 -- A side's commands are n more than the connectives' bytes, which are 2 to 6.
 pub order-reduce : (t : Side) (b n : ℕ) → ((k : Connective) → orderCode (REDUCE t k) ≡ n + code (CONNECTIVE k)) → n + 2 ≤ b → b ≤ n + 6
@@ -33,12 +36,13 @@ order-reduce t b n f h l =
     let e : b ≡ orderCode (REDUCE t (j .connective)) = omega (arith, f (j .connective)) in
     ap (λ (x : ℕ). orderOf (order x)) e ∙ ap orderOf (order-code (REDUCE t (j .connective))) ∙ ap (Reduce t) i
 
-pub order-other : (b : ℕ) → (b ≡ 0x41 → ⊥) → (0x52 ≤ b → b ≤ 0x56 → ⊥) → (0x62 ≤ b → b ≤ 0x66 → ⊥) → orderOf (order b) ≡ Unknown
-order-other b h k l = go (order b) refl
+pub order-other : (b : ℕ) → (b ≡ 0x41 → ⊥) → (b ≡ 0x42 → ⊥) → (0x52 ≤ b → b ≤ 0x56 → ⊥) → (0x62 ≤ b → b ≤ 0x66 → ⊥) → orderOf (order b) ≡ Unknown
+order-other b h p k l = go (order b) refl
   where
     go : (o : Option Command) → order b ≡ o → orderOf o ≡ Unknown
     go none e = refl
     go (some CLOSE) e = absurd (h (sym (order-byte b CLOSE e)))
+    go (some PAIR) e = absurd (p (sym (order-byte b PAIR e)))
     go (some (REDUCE Left j)) e =
         let i = order-byte b (REDUCE Left j) e in
         let r = connective-range j in

@@ -1,16 +1,19 @@
 -- The walk over a derivation: one command, then the premises one after the other.
 -- Assumes nothing.
 use mathlib.Core.Path.{_≡_, refl, sym, ap, _∙_, subst}
+use mathlib.Core.Option.{Option, none, some}
 use mathlib.Core.List.{List, [], _∷_, _++_, map}
 use Prim.Native.Nat.{ℕ, zero, suc, _+_, _-_, _≤_, _<_}
 use native.Mathlib.Omega.{arith}
-use lib.ListN.{length, take, drop, getD, length-drop, take-append-drop}
-use lib.Seq.{drop-cons}
+use native.Mathlib.Decide.{decLt}
+use lib.ListN.{length, take, drop, getD, getElem?, length-drop, take-append-drop}
+use lib.Seq.{drop-cons, drop-drop}
 use Rattle.calculus.specs.Fold.{Each, fold, SUM}
 use Rattle.calculus.specs.Limits.{ROOM, CUT-SHORT}
 use Rattle.calculus.specs.Syntax.{Sequent, size}
-use Rattle.calculus.specs.Derivation.{Move as Result, fault, waiting, obey, order, faulty, proceed, check}
+use Rattle.calculus.specs.Derivation.{Move as Result, fault, waiting, shut, obey, order, faulty, proceed, check}
 use Rattle.calculus.proofs.Folds.{fold-append}
+use Rattle.calculus.proofs.Derivations.{Obeyed, obeyed}
 use Rattle.sequent.specs.declared.Placing.{Placing}
 use Rattle.sequent.specs.declared.Rule.{Rule}
 use Rattle.sequent.specs.declared.Running.{Running}
@@ -27,7 +30,7 @@ use Rattle.checker.specs.declared.Walked.{Walked}
 use Rattle.checker.specs.declared.Walked.the-variants.{To, Stopped}
 use Rattle.checker.specs.Answers.{faultNumber, faultPlace}
 use Rattle.checker.specs.Walks.{Roomy, Walks, Tallied}
-use Rattle.checker.proofs.Commands.{roomy-premises}
+use Rattle.checker.proofs.Commands.{roomy-premises, past}
 
 -- ---- one command
 
@@ -39,26 +42,68 @@ cut-short d at h S Ps = go (drop at d) (omega (arith, length-drop at d))
     go (b ∷ []) l = refl
     go (b ∷ x ∷ bs) l = absurd (omega arith)
 
+head-drop : (k : ℕ) (d : List ℕ) → getElem? (drop k d) 0 ≡ getElem? d k
+head-drop zero d = refl
+head-drop (suc k) [] = refl
+head-drop (suc k) (b ∷ bs) = head-drop k bs
+
+-- the byte at a place, where there is one
+pub byte-at : (d : List ℕ) (k : ℕ) → k < length d → getElem? d k ≡ some (getD d k 0)
+byte-at d k h = sym (head-drop k d) ∙ ap (λ (l : List ℕ). getElem? l 0) (drop-cons d k 0 h)
+
+-- only a command of three bytes shuts
+not-shut : {Q : Type 0} (b i : ℕ) (S : Sequent) → obey (order b) i none S ≡ shut → Q
+not-shut b i S e = absurd (subst (Obeyed S b i none) e (obeyed b i none S))
+
+-- a command at the sequent that waits, and what follows
+command : (b i : ℕ) (bs : List ℕ) (S : Sequent) (Ps : List Sequent) (at : ℕ)
+    → check (b ∷ i ∷ bs) (S ∷ Ps) at ≡ proceed (obey (order b) i (getElem? bs 0) S) at (λ Qs. check bs (Qs ++ Ps) (at + 2)) (λ Qs. check (drop 1 bs) (Qs ++ Ps) (at + 3))
+command b i [] S Ps at = go (obey (order b) i none S) (not-shut b i S)
+  where
+    go : (m : Result) → (m ≡ shut → ⊥)
+        → proceed m at (λ Qs. check [] (Qs ++ Ps) (at + 2)) (λ Qs. faulty CUT-SHORT at) ≡ proceed m at (λ Qs. check [] (Qs ++ Ps) (at + 2)) (λ Qs. check [] (Qs ++ Ps) (at + 3))
+    go (fault n) z = refl
+    go (waiting Qs) z = refl
+    go shut z = absurd (z refl)
+command b i (j ∷ bs) S Ps at = refl
+
+-- what the command at a place says
+abbrev pub said : List ℕ → ℕ → Sequent → Result
+said d at S = obey (order (getD d at 0)) (getD d (at + 1) 0) (getElem? d (at + 2)) S
+
 module _ (d : List ℕ) (at : ℕ) (more : at + 2 ≤ length d) (S : Sequent) where
-  commanded : (Ps : List Sequent) → check (drop at d) (S ∷ Ps) at ≡ proceed (obey (order (getD d at 0)) (getD d (at + 1) 0) S) at (λ Qs. check (drop (at + 2) d) (Qs ++ Ps) (at + 2))
-  commanded Ps =
-      let n : at + 1 ≡ suc at = omega arith in
-      let m : at + 2 ≡ suc (suc at) = omega arith in
-      let e : drop at d ≡ getD d at 0 ∷ getD d (at + 1) 0 ∷ drop (at + 2) d
-      = rw (n, m) (drop-cons d at 0 (omega arith) ∙ ap (λ (l : List ℕ). getD d at 0 ∷ l) (drop-cons d (suc at) 0 (omega arith))) in
-      ap (λ (l : List ℕ). check l (S ∷ Ps) at) e
+  module _ (m : Result) (e : said d at S ≡ m) where
+    by-result : (Ps : List Sequent) → check (drop at d) (S ∷ Ps) at ≡ proceed m at (λ Qs. check (drop (at + 2) d) (Qs ++ Ps) (at + 2)) (λ Qs. check (drop (at + 3) d) (Qs ++ Ps) (at + 3))
+    by-result Ps =
+        let n : at + 1 ≡ suc at = omega arith in
+        let k : at + 2 ≡ suc (suc at) = omega arith in
+        let f : drop at d ≡ getD d at 0 ∷ getD d (at + 1) 0 ∷ drop (at + 2) d
+        = rw (n, k) (drop-cons d at 0 (omega arith) ∙ ap (λ (l : List ℕ). getD d at 0 ∷ l) (drop-cons d (suc at) 0 (omega arith))) in
+        let j : at + 2 + 1 ≡ at + 3 = omega arith in
+        let g : drop 1 (drop (at + 2) d) ≡ drop (at + 3) d = drop-drop 1 (at + 2) d ∙ ap (λ (n : ℕ). drop n d) j in
+        let h : obey (order (getD d at 0)) (getD d (at + 1) 0) (getElem? (drop (at + 2) d) 0) S ≡ m
+        = ap (λ (o : Option ℕ). obey (order (getD d at 0)) (getD d (at + 1) 0) o S) (head-drop (at + 2) d) ∙ e in
+        ap (λ (l : List ℕ). check l (S ∷ Ps) at) f ∙ command (getD d at 0) (getD d (at + 1) 0) (drop (at + 2) d) S Ps at
+        ∙ ap (λ (r : Result). proceed r at (λ Qs. check (drop (at + 2) d) (Qs ++ Ps) (at + 2)) (λ Qs. check (drop 1 (drop (at + 2) d)) (Qs ++ Ps) (at + 3))) h
+        ∙ ap (λ (l : List ℕ). proceed m at (λ Qs. check (drop (at + 2) d) (Qs ++ Ps) (at + 2)) (λ Qs. check l (Qs ++ Ps) (at + 3))) g
 
-  module _ (m : Result) (e : obey (order (getD d at 0)) (getD d (at + 1) 0) S ≡ m) where
-    by-result : (Ps : List Sequent) → check (drop at d) (S ∷ Ps) at ≡ proceed m at (λ Qs. check (drop (at + 2) d) (Qs ++ Ps) (at + 2))
-    by-result Ps = commanded Ps ∙ ap (λ (r : Result). proceed r at (λ Qs. check (drop (at + 2) d) (Qs ++ Ps) (at + 2))) e
-
-  pub walk-stopped : (f : Fault) → obey (order (getD d at 0)) (getD d (at + 1) 0) S ≡ fault (faultNumber f) → faultPlace f ≡ at → Walks d (S ∷ []) at (Stopped f)
+  pub walk-stopped : (f : Fault) → said d at S ≡ fault (faultNumber f) → faultPlace f ≡ at → Walks d (S ∷ []) at (Stopped f)
   walk-stopped f e p Ps = by-result (fault (faultNumber f)) e Ps ∙ ap (faulty (faultNumber f)) (sym p)
 
-  pub walk-closed : obey (order (getD d at 0)) (getD d (at + 1) 0) S ≡ waiting [] → Walks d (S ∷ []) at (To (at + 2))
+  pub walk-closed : said d at S ≡ waiting [] → Walks d (S ∷ []) at (To (at + 2))
   walk-closed e = (more, by-result (waiting []) e)
 
-  pub walk-reduced : (Qs : List Sequent) → obey (order (getD d at 0)) (getD d (at + 1) 0) S ≡ waiting Qs → (w : Walked) → Walks d Qs (at + 2) w → Walks d (S ∷ []) at w
+  pub three-bytes : said d at S ≡ shut → at + 3 ≤ length d
+  three-bytes e = go (decLt (at + 2) (length d))
+    where
+      go : Dec (at + 2 < length d) → at + 3 ≤ length d
+      go (yes h) = omega arith
+      go (no h) = not-shut (getD d at 0) (getD d (at + 1) 0) S (rw (past d (at + 2) (omega arith)) at e)
+
+  pub walk-paired : said d at S ≡ shut → Walks d (S ∷ []) at (To (at + 3))
+  walk-paired e = (three-bytes e, by-result shut e)
+
+  pub walk-reduced : (Qs : List Sequent) → said d at S ≡ waiting Qs → (w : Walked) → Walks d Qs (at + 2) w → Walks d (S ∷ []) at w
   walk-reduced Qs e (To n) h = (h .0, λ Ps. by-result (waiting Qs) e Ps ∙ h .1 Ps)
   walk-reduced Qs e (Stopped f) h = λ Ps. by-result (waiting Qs) e Ps ∙ h Ps
 

@@ -1,11 +1,11 @@
--- Document 01's number and values of each answer of the checker.
+-- The documents' number and values of each answer of the checker.
 use mathlib.Core.List.{[], _∷_}
 use Prim.Native.Nat.{ℕ}
-use Rattle.calculus.specs.Limits.{CUT-SHORT, UNKNOWN-COMMAND, NO-FORMULA, OTHER-CONNECTIVE, NOT-CLOSED, BYTES-AFTER}
+use Rattle.calculus.specs.Limits.{CUT-SHORT, UNKNOWN-COMMAND, NO-FORMULA, OTHER-CONNECTIVE, NOT-CLOSED, BYTES-AFTER, NOT-EQUAL}
 use Rattle.calculus.specs.Reply.{Reply}
 use Rattle.question.specs.Answers.{numberOf, placeOf}
 use Rattle.checker.specs.declared.Fault.{Fault}
-use Rattle.checker.specs.declared.Fault.the-variants.{CutShort, UnknownCommand, NoFormula, OtherConnective, NotClosed, BytesAfter}
+use Rattle.checker.specs.declared.Fault.the-variants.{CutShort, UnknownCommand, NoFormula, OtherConnective, NotClosed, BytesAfter, NotEqual}
 use Rattle.checker.specs.declared.Checking.{Checking}
 use Rattle.checker.specs.declared.Checking.the-variants.{Refused, Faulty, Passes}
 
@@ -16,6 +16,7 @@ faultNumber (NoFormula at) = NO-FORMULA
 faultNumber (OtherConnective at) = OTHER-CONNECTIVE
 faultNumber (NotClosed at) = NOT-CLOSED
 faultNumber (BytesAfter at) = BYTES-AFTER
+faultNumber (NotEqual at) = NOT-EQUAL
 
 abbrev pub faultPlace : Fault → ℕ
 faultPlace (CutShort at) = at
@@ -24,6 +25,7 @@ faultPlace (NoFormula at) = at
 faultPlace (OtherConnective at) = at
 faultPlace (NotClosed at) = at
 faultPlace (BytesAfter at) = at
+faultPlace (NotEqual at) = at
 
 -- "without a refusal the checker answers only that the derivation passes"
 abbrev pub checkOf : Checking → Reply

@@ -1,4 +1,4 @@
--- The checker's steps, each by document 01's definitions.
+-- The checker's steps, each by the documents' definitions.
 use mathlib.Core.Path.{_≡_}
 use mathlib.Core.Option.{Option, none, some}
 use mathlib.Core.List.{List, [], _++_}
@@ -8,14 +8,14 @@ use Rattle.calculus.specs.Fold.{fold, SUM}
 use Rattle.calculus.specs.Limits.{ROOM}
 use Rattle.calculus.specs.Syntax.{Sequent, c, size}
 use Rattle.calculus.specs.Bytes.{CONNECTIVE, code}
-use Rattle.calculus.specs.Derivation.{Order as Command, CLOSE, REDUCE, Move as Result, fault, waiting, faulty, check}
+use Rattle.calculus.specs.Derivation.{Order as Command, CLOSE, PAIR, REDUCE, Move as Result, fault, waiting, shut, faulty, check}
 use Rattle.sequent.specs.declared.Running.{Running}
 use Rattle.sequent.specs.Compounds.{premisesAt, Reducible}
 use Rattle.checker.specs.Answers.{faultNumber, faultPlace}
 use Rattle.checker.specs.declared.Order.{Order}
-use Rattle.checker.specs.declared.Order.the-variants.{Close, Reduce as Reduction-of, Unknown}
+use Rattle.checker.specs.declared.Order.the-variants.{Close, Pair, Reduce as Reduction-of, Unknown}
 use Rattle.checker.specs.declared.Move.{Move}
-use Rattle.checker.specs.declared.Move.the-variants.{Stop, Closed, Reduce}
+use Rattle.checker.specs.declared.Move.the-variants.{Stop, Closed, Paired, Reduce}
 use Rattle.checker.specs.declared.Walked.{Walked}
 use Rattle.checker.specs.declared.Walked.the-variants.{To, Stopped}
 use Rattle.checker.specs.declared.Tally.{Tally}
@@ -25,14 +25,16 @@ use Rattle.checker.specs.declared.Tally.{Tally}
 abbrev pub orderOf : Option Command → Order
 orderOf none = Unknown
 orderOf (some CLOSE) = Close
+orderOf (some PAIR) = Pair
 orderOf (some (REDUCE s k)) = Reduction-of s (code (CONNECTIVE k))
 
 -- ---- what a command says
 
--- a move of the command at `at`, where document 01's is m
+-- a move of the command at `at`, where the documents' is m
 abbrev pub Moves : List ℕ → List ℕ → Running → ℕ → Result → Move → Type 0
 Moves T items s at m (Stop f) = (m ≡ fault (faultNumber f)) × (faultPlace f ≡ at)
 Moves T items s at m Closed = m ≡ waiting []
+Moves T items s at m Paired = m ≡ shut
 Moves T items s at m (Reduce r) = (m ≡ waiting (premisesAt T items s r)) × Reducible T items s r
 
 -- ---- the derivations of sequents from a place on, one after the other, whatever waits after them

@@ -11,14 +11,15 @@ ghost use mathlib.Core.Path.{_≡_};
 ghost use mathlib.Core.Logic.{_↔_};
 ghost use mathlib.Core.Bool.{_&&_};
 ghost use mathlib.Core.Option.{some};
-ghost use mathlib.Core.List.{[], _∷_};
-ghost use Prim.Native.Nat.{_≤_};
-ghost use lib.ListN.{length};
-ghost use Rattle.calculus.specs.Syntax.{Connective, size};
+ghost use mathlib.Core.List.{List, [], _∷_};
+ghost use Prim.Native.Nat.{ℕ, _+_, _≤_};
+ghost use lib.ListN.{length, getD, getElem?};
+ghost use Rattle.calculus.specs.Limits.{ROOM};
+ghost use Rattle.calculus.specs.Syntax.{Connective, on-side, size};
 ghost use Rattle.calculus.specs.Bytes.{CONNECTIVE, code, question};
 ghost use Rattle.calculus.specs.Truth.{bit, Valid};
 ghost use Rattle.calculus.specs.Reading.{accepted, reading};
-ghost use Rattle.calculus.specs.Derivation.{REDUCE, order, obey, Derivation};
+ghost use Rattle.calculus.specs.Derivation.{PAIR, order, named, pairs, obey, Derivation};
 ghost use Rattle.calculus.specs.Reply.{checkReply};
 ghost use Rattle.sequent.specs.View.{Good, sequentOf};
 ghost use Rattle.sequent.specs.Compounds.{premisesAt, premiseBy, Reducible, Makes};
@@ -37,7 +38,7 @@ pub enum Fault {
 }
 
 impl Fault {
-    // Document 01's number.
+    // Its number in the documents.
     pub fn number(self) -> u32
         ensures { λ r. ⌜ r ≡ faultNumber self ⌝ }
     {
@@ -82,10 +83,12 @@ enum Order {
     Unknown,
 }
 
-// What a command says of the sequent that waits: at fault, closed, with the bytes that the command has, or a reduction to make.
+// What a command says of the sequent that waits: at fault, closed by a command of two bytes, closed by one of three, or a
+// reduction to make.
 enum Move {
     Stop(Fault),
-    Closed(usize),
+    Closed,
+    Paired,
     Reduce(Reduction),
 }
 
@@ -152,7 +155,12 @@ fn formula_named(
         (now (items .entry))
         s
         at
-        (obey (some (REDUCE side k)) place (sequentOf (now (nodes .entry)) (now (items .entry)) s))
+        (named
+        side
+        place
+        k
+        (sequentOf (now (nodes .entry)) (now (items .entry)) s)
+        (getElem? (on-side side (sequentOf (now (nodes .entry)) (now (items .entry)) s)) place))
         r) ⌝ }
 {
     let i = wide(place);
@@ -170,45 +178,81 @@ fn formula_named(
     Move::Reduce(r)
 }
 
-// Whether the formulas at a left and a right place are one with connectives.
-fn formulas_named(items: &[u8; 80], s: Running, left: u8, right: u8, at: usize) -> Move {
+// Closed, if the formulas at a left and a right place are equal and no letters: equal formulas have one name.
+fn pairs(items: &[u8; 80], s: Running, left: u8, right: u8, at: usize) -> Move
+    requires { ⌜ (s .lefts + s .rights ≤ ROOM) × (length (now items) ≡ ROOM) ⌝ }
+    ensures { λ r. ⌜
+        ((T : List ℕ) → Good T (now (items .entry)) s
+        → Moves
+        T
+        (now (items .entry))
+        s
+        at
+        (pairs
+        (getElem? (sequentOf T (now (items .entry)) s .on-left) left)
+        (getElem? (sequentOf T (now (items .entry)) s .on-right) right))
+        r) ⌝ }
+{
     let i = wide(left);
     let j = wide(right);
+    let missing = Move::Stop(Fault::NoFormula(at));
     if s.lefts <= i {
-        return Move::Stop(Fault::NoFormula(at));
+        return missing;
     }
     if s.rights <= j {
-        return Move::Stop(Fault::NoFormula(at));
+        return missing;
     }
+    let unequal = Move::Stop(Fault::NotEqual(at));
     let k = s.lefts + j;
     if items[i] < LETTERS {
-        return Move::Stop(Fault::NotEqual(at));
+        return unequal;
     }
     if items[i] != items[k] {
-        return Move::Stop(Fault::NotEqual(at));
+        return unequal;
     }
-    Move::Closed(3)
+    Move::Paired
 }
 
-// 42 at a place of the derivation, with its first operand x.
-fn paired(items: &[u8; 80], d: &[u8], s: Running, x: u8, at: usize) -> Move {
+// 42 at a place of the derivation, with its first operand.
+fn obey_pair(items: &[u8; 80], d: &[u8], s: Running, left: u8, at: usize) -> Move
+    requires { ⌜
+        (s .lefts + s .rights ≤ ROOM)
+        × (length (now items) ≡ ROOM)
+        × (at + 2 ≤ length (now d)) ⌝ }
+    ensures { λ r. ⌜
+        ((T : List ℕ) → Good T (now (items .entry)) s
+        → Moves
+        T
+        (now (items .entry))
+        s
+        at
+        (obey (some PAIR) left (getElem? (now (d .entry)) (at + 2)) (sequentOf T (now (items .entry)) s))
+        r) ⌝ }
+{
     if d.len() - at < 3 {
         return Move::Stop(Fault::CutShort(at));
     }
     let last = at + 2;
-    formulas_named(items, s, x, d[last], at)
+    pairs(items, s, left, d[last], at)
 }
 
-// The command at a place of the derivation, which has one operand at least.
+// The command at a place of the derivation, where two bytes are left.
 fn obey(nodes: &[u32; 48], items: &[u8; 80], d: &[u8], s: Running, at: usize) -> Move
-    requires { ⌜ Good (now nodes) (now items) s × Roomy (sequentOf (now nodes) (now items) s) ⌝ }
+    requires { ⌜
+        Good (now nodes) (now items) s
+        × Roomy (sequentOf (now nodes) (now items) s)
+        × (at + 2 ≤ length (now d)) ⌝ }
     ensures { λ r. ⌜
         Moves
         (now (nodes .entry))
         (now (items .entry))
         s
         at
-        (obey (order b) x (sequentOf (now (nodes .entry)) (now (items .entry)) s))
+        (obey
+        (order (getD (now (d .entry)) at 0))
+        (getD (now (d .entry)) (at + 1) 0)
+        (getElem? (now (d .entry)) (at + 2))
+        (sequentOf (now (nodes .entry)) (now (items .entry)) s))
         r ⌝ }
 {
     let operand = at + 1;
@@ -217,11 +261,11 @@ fn obey(nodes: &[u32; 48], items: &[u8; 80], d: &[u8], s: Running, at: usize) ->
     match order {
         Order::Close => {
             if closes(s, x) {
-                return Move::Closed(2);
+                return Move::Closed;
             }
             Move::Stop(Fault::NotClosed(at))
         }
-        Order::Pair => paired(items, d, s, x, at),
+        Order::Pair => obey_pair(items, d, s, x, at),
         Order::Reduce(side, k) => formula_named(nodes, items, s, side, k, x, at),
         Order::Unknown => Move::Stop(Fault::UnknownCommand(at)),
     }
@@ -239,7 +283,8 @@ fn walk(nodes: &[u32; 48], items: &[u8; 80], d: &[u8], s: Running, at: usize) ->
     let next = obey(nodes, items, d, s, at);
     match next {
         Move::Stop(f) => Walked::Stopped(f),
-        Move::Closed(n) => Walked::To(at + n),
+        Move::Closed => Walked::To(at + 2),
+        Move::Paired => Walked::To(at + 3),
         Move::Reduce(r) => {
             let t = walk_premises(nodes, items, d, s, r, at + 2);
             let walked = t.walked;

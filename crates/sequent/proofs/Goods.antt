@@ -119,7 +119,7 @@ module _ (T items : List ℕ) (s : Running) (good : Good T items s) where
   found-nowhere h = (first-missing T (good .nodes) (good .used) (good .few) (view s items .on-left) (good .known Left) (h .0), first-missing T (good .nodes) (good .used) (good .few) (view s items .on-right) (good .known Right) (h .1))
 
   -- "the lowest left place that has an equal on the right, with the lowest such right place"
-  equal-formulas : (i j : ℕ) → EqualAt (view s items) i j → Pairs i j (sequentOf T items s)
+  pub equal-formulas : (i j : ℕ) → EqualAt (view s items) i j → Pairs i j (sequentOf T items s)
   equal-formulas i j e =
       let l = each-at (Known T (good .used)) (view s items .on-left) i 0 (good .known Left) (e .left) in
       let n = nameAt Left i (view s items) in

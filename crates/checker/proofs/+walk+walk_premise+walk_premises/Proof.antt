@@ -1,21 +1,21 @@
 -- The walk meets its contract: the connectives of the running sequent fall from a sequent to its premises. Assumes nothing.
-use mathlib.Core.Path.{sym, ap, subst}
+use mathlib.Core.Path.{_≡_, sym, ap, subst}
 use mathlib.Core.List.{[], _∷_}
 use Prim.Native.Nat.{ℕ, _+_, _-_, _*_, _≤_, _<_}
 use native.Mathlib.Omega.{arith}
-use lib.ListN.{length, getD}
+use lib.ListN.{length}
 use borrow.Author.Needs.{needs}
 use borrow.Fn.Kinds.{In}
 use borrow.Fn.PlainCycle.{Measures, is, falls, and}
 use Rattle.calculus.specs.Syntax.{Sequent, c as connectivesOf}
-use Rattle.calculus.specs.Derivation.{obey, order}
 use Rattle.sequent.specs.declared.Rule.{Rule}
 use Rattle.sequent.specs.View.{view, sequentOf}
 use Rattle.sequent.specs.Compounds.{premiseBy, Makes, compoundAt, ruleFor}
 use Rattle.sequent.proofs.Goods.{premises-made, few, makes-next, premise-asks, made-is, made-good, made-stores, command-made}
-use Rattle.checker.specs.declared.Move.the-variants.{Reduce}
+use Rattle.checker.specs.declared.Move.{Move}
+use Rattle.checker.specs.declared.Move.the-variants.{Closed, Paired}
 use Rattle.checker.specs.Walks.{Roomy, Moves, Walks}
-use Rattle.checker.proofs.Walking.{cut-short, walk-stopped, walk-closed, walk-reduced, Ahead, ahead-starts, ahead-goes, ahead-stops, ahead-ends, roomy-next}
+use Rattle.checker.proofs.Walking.{cut-short, said, walk-stopped, walk-closed, three-bytes, walk-paired, walk-reduced, Ahead, ahead-starts, ahead-goes, ahead-stops, ahead-ends, roomy-next}
 use Rattle.checker.proofs.walk.Reads as walk
 use Rattle.checker.proofs.walk.Kinds as walk-kinds
 use Rattle.checker.proofs.+walk+walk_premise+walk_premises.Lts-walk as walk-lts
@@ -75,14 +75,17 @@ walk-premises-below t =
 abbrev walk-calls : ℕ → walk-lts.Claims
 walk-calls t = (obey-reads.Asked, obey-reads.Learnt, walk-premises-below t, walk-premises.Post)
 
-more-now : (t : ℕ) (c : walk-lts.After-obey (walk-calls t) (walk-at t) walk.Post) → let a = c .before .before .before .before .before .args in a .at + 2 ≤ length (a .d .now)
-more-now t c = omega (arith, c .before .before .before .if1 .left)
+abbrev Told : ℕ → Type 0
+Told t = walk-lts.After-obey (walk-calls t) (walk-at t) walk.Post
 
--- the command's reduction
-found-now : (t : ℕ) (c : walk-lts.After-known-told2 (walk-calls t) (walk-at t) walk.Post) →
-    let a = c .before .before .before .before .before .before .before .before .args in
-    Moves (a .nodes .now) (a .items .now) (a .s) (a .at) (obey (order (getD (a .d .now) (a .at) 0)) (getD (a .d .now) (a .at + 1) 0) (sequentOf (a .nodes .now) (a .items .now) (a .s))) (Reduce (c .before .next2 .given .0 .0))
-found-now t c = rw (c .before .next2 .given .1) at (c .before .before .before .obey .ensures)
+more-now : (t : ℕ) (c : Told t) → let a = c .before .before .before .args in a .at + 2 ≤ length (a .d .now)
+more-now t c = omega (arith, c .before .if1 .left)
+
+-- what the command says
+moves-now : (t : ℕ) (c : Told t) (m : Move) → c .obey .result ≡ m →
+    let a = c .before .before .before .args in
+    Moves (a .nodes .now) (a .items .now) (a .s) (a .at) (said (a .d .now) (a .at) (sequentOf (a .nodes .now) (a .items .now) (a .s))) m
+moves-now t c m e = rw e at (c .obey .ensures)
 
 -- ---- the loop over the premises
 
@@ -126,30 +129,40 @@ pub +walk+walk-premise+walk-premises-spec : {M : Type 1} → statement M
     walk.Post
     (λ c. search needs)
     (λ c. let a = c .before .before .args in cut-short (a .d .now) (a .at) (c .if1 .taken) (sequentOf (a .nodes .now) (a .items .now) (a .s)))
-    (λ c. omega arith)
-    (λ c. omega (arith, c .before .if1 .left))
-    (λ c. omega (arith, c .before .before .if1 .left))
-    (λ c κs. let h = c .before .before .before .before .pre .1 in (h .0, h .1))
+    (λ c κs. let h = c .before .before .pre .1 in (h .0, h .1, omega (arith, c .if1 .left)))
     (λ c. search needs)
     (λ c. search needs)
     (λ c. omega (arith, more-now t (c .before .before)))
     (λ c. search needs)
+    (λ c.
+    let o = c .before .before in
+    let a = o .before .before .before .args in
+    omega (arith, three-bytes (a .d .now) (a .at) (more-now t o) (sequentOf (a .nodes .now) (a .items .now) (a .s)) (moves-now t o Paired (c .enum-told2 .given .1))))
+    (λ c. search needs)
     (λ c. omega (arith, more-now t (c .before .before .before)))
     (λ c κs.
-    let s = c .before .before .before .before .before .before .before .before in
-    let h = s .pre in
-    (omega (arith, h .0), (h .1 .0, h .1 .1, found-now t c .1, omega (arith, more-now t (c .before .before .before)))))
+    let o = c .before .before .before in
+    let h = o .before .before .before .pre in
+    (omega (arith, h .0), (h .1 .0, h .1 .1, moves-now t o _ (c .before .next2 .given .1) .1, omega (arith, more-now t o))))
     (λ c.
-    let a = c .before .before .before .before .before .before .before .before .args in
-    let m = rw (c .before .next .given .1) at (c .before .before .before .obey .ensures) in
-    walk-stopped (a .d .now) (a .at) (more-now t (c .before .before .before)) (sequentOf (a .nodes .now) (a .items .now) (a .s)) (c .before .next .given .0 .0) (m .0) (m .1))
+    let o = c .before .before .before in
+    let a = o .before .before .before .args in
+    let n = c .before .next .given in
+    let m = moves-now t o _ (n .1) in
+    walk-stopped (a .d .now) (a .at) (more-now t o) (sequentOf (a .nodes .now) (a .items .now) (a .s)) (n .0 .0) (m .0) (m .1))
     (λ c.
-    let a = c .before .before .before .before .before .before .before .args in
-    walk-closed (a .d .now) (a .at) (more-now t (c .before .before)) (sequentOf (a .nodes .now) (a .items .now) (a .s)) (rw (c .enum-told .given .1) at (c .before .before .obey .ensures)))
+    let o = c .before .before in
+    let a = o .before .before .before .args in
+    walk-closed (a .d .now) (a .at) (more-now t o) (sequentOf (a .nodes .now) (a .items .now) (a .s)) (moves-now t o Closed (c .enum-told .given .1)))
     (λ c.
-    let a = c .before .before .before .before .before .before .before .before .before .args in
+    let o = c .before .before in
+    let a = o .before .before .before .args in
+    walk-paired (a .d .now) (a .at) (more-now t o) (sequentOf (a .nodes .now) (a .items .now) (a .s)) (moves-now t o Paired (c .enum-told2 .given .1)))
+    (λ c.
+    let o = c .before .before .before .before in
+    let a = o .before .before .before .args in
     let w = c .walk-premises in
-    walk-reduced (a .d .now) (a .at) (more-now t (c .before .before .before .before)) (sequentOf (a .nodes .now) (a .items .now) (a .s)) _ (found-now t (c .before) .0) (w .result .walked) (w .ensures .walks)))
+    walk-reduced (a .d .now) (a .at) (more-now t o) (sequentOf (a .nodes .now) (a .items .now) (a .s)) _ (moves-now t o _ (c .before .before .next2 .given .1) .0) (w .result .walked) (w .ensures .walks)))
     (λ t. walk-premise-lts.spec (
       premise-reads.Asked,
       premise-reads.Learnt,
