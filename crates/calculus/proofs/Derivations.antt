@@ -22,9 +22,9 @@ use Rattle.calculus.specs.Syntax.{AND, OR, IMPLIES, EQUIV, Connective, N
 use Rattle.calculus.specs.Bytes.{CONNECTIVE, code, same}
 use Rattle.calculus.specs.Truth.{truth, Valid}
 use Rattle.calculus.specs.Table.{premises}
-use Rattle.calculus.specs.Tree.{letters, among, Way, lettered, paired, Step, closed, opened, full, reduced, Event, close, reduce, Tree, follow, chain, grow, tree, reductions, closings, pairings, outcome}
+use Rattle.calculus.specs.Tree.{letters, among, lettered, paired, Step, closed, opened, full, reduced, Event, close, reduce, Tree, follow, chain, grow, tree, reductions, closings, pairings, outcome}
 use Rattle.calculus.specs.Width.{W}
-use Rattle.calculus.specs.Derivation.{Order, CLOSE, PAIR, REDUCE, orderCode, orders, order, written, writtenAll, derivation, Pairs, Derivation, by-letter, by-pair, by-rule, Derivations, none-left, then, Move, fault, waiting, shut, named, equals, pairs, obey, passes, faulty, proceed, check, checking}
+use Rattle.calculus.specs.Derivation.{Order, CLOSE, PAIR, REDUCE, orderCode, orders, order, written, writtenAll, derivation, Derivation, by-letter, by-pair, by-rule, Derivations, none-left, then, Move, fault, waiting, shut, named, equals, pairs, obey, passes, faulty, proceed, check, checking}
 use Rattle.calculus.proofs.Folds.{not-so, found}
 use Rattle.calculus.proofs.Spelling.{code-injective, same-eq, same-self}
 use Rattle.calculus.proofs.Sequents.{truth-premises, width-premises, Smaller, smaller}

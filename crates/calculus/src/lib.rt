@@ -39,7 +39,8 @@ pub enum Kind {
     Full,
 }
 
-// What a run under a budget comes to: its kind, the reductions left, the sequents closed, and how many of these by equal formulas.
+// What a run under a budget comes to: its kind, the reductions left, the sequents closed, and how many of these by equal
+// formulas.
 pub struct Outcome {
     pub kind: Kind,
     pub unspent: u64,

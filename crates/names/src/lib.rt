@@ -1,5 +1,5 @@
-// The names of a question's formulas and their nodes, in one walk, and the running sequent that it starts from. Equal formulas have
-// one name.
+// The names of a question's formulas and their nodes, in one walk, and the running sequent that it starts from. Equal
+// formulas have one name.
 use calculus::Side;
 use question::LETTERS;
 use sequent::Running;
@@ -136,7 +136,8 @@ fn number_parts(q: &[u8], nodes: &mut [u32; 48], at: usize, n: usize) -> Named
 fn enter(q: &[u8], nodes: &mut [u32; 48], items: &mut [u8; 80], l: Loaded) -> Loaded
     requires { ⌜ ((first : ℕ) × (xs : List Formula) × Loads (now nodes) (now items) first l xs × Enters (now q) l xs) ⌝ }
     ensures { λ r. ⌜
-        ((first : ℕ) (xs : List Formula) → Loads (now (nodes .entry)) (now (items .entry)) first l xs → Enters (now (q .entry)) l xs
+        ((first : ℕ) (xs : List Formula) → Loads (now (nodes .entry)) (now (items .entry)) first l xs
+        → Enters (now (q .entry)) l xs
         → Loads (now (nodes .exit)) (now (items .exit)) first r (xs ++ (formulaAt (now (q .entry)) (l .end) ∷ [])))
         × (take (l .places) (now (items .exit)) ≡ take (l .places) (now (items .entry)))
         × (r .end ≡ endOf (now (q .entry)) (l .end)) ⌝ }

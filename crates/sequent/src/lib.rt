@@ -13,7 +13,8 @@ ghost use Rattle.calculus.specs.Bytes.{CONNECTIVE, code};
 ghost use Rattle.calculus.specs.Table.{premise};
 ghost use Rattle.sequent.specs.Names.{firstOf, secondOf};
 ghost use Rattle.sequent.specs.Rule.{sideCode, ruleOf, keep, partsOn, placed};
-ghost use Rattle.sequent.specs.View.{view, countOf, slotOf, endOf, startOf, bitOf, lettersOf, compoundBit, compoundsOf, Covered, Joined, Good, nameAt};
+ghost use Rattle.sequent.specs.View.{view, countOf, slotOf, endOf, startOf, bitOf, lettersOf, compoundBit, compoundsOf};
+ghost use Rattle.sequent.specs.View.{Covered, Joined, Good, nameAt};
 ghost use Rattle.sequent.specs.Passes.{Fits, Stored, Builds};
 ghost use Rattle.sequent.specs.Compounds.{firstIn, Clear, Found, Stands, Paired, ruleFor, reductionAt};
 
