@@ -45,21 +45,21 @@ letters-splice xs new i h k =
     bits-fold bitOf (splice i new xs) ∙ fold-splice OR bitOf xs i (getD xs i 0) new (at-place xs i h) (rw (le-ltb (getD xs i 0) LETTERS k)) ∙ rw (bits-fold bitOf xs, bits-fold bitOf new)
 
 -- the letters and the compounds of parts join those of their sides
-abbrev with-bits : Running → ℕ → ℕ → ℕ → ℕ → Running
-with-bits s a b x y =
-    record { lefts = s .lefts; rights = s .rights; leftmask = bitOr (s .leftmask) a; rightmask = bitOr (s .rightmask) b; leftset = bitOr (s .leftset) x; rightset = bitOr (s .rightset) y }
+abbrev with-bits : ℕ → ℕ → Running → ℕ → ℕ → ℕ → ℕ → Running
+with-bits m n s a b x y =
+    record { lefts = m; rights = n; leftmask = bitOr (s .leftmask) a; rightmask = bitOr (s .rightmask) b; leftset = bitOr (s .leftset) x; rightset = bitOr (s .rightset) y }
 
-pub joined-made : (s : Running) (p : Placing) (f g a b x y : ℕ) → a ≡ lettersOf (partsOn Left p f g) → b ≡ lettersOf (partsOn Right p f g)
-    → x ≡ compoundsOf (partsOn Left p f g) → y ≡ compoundsOf (partsOn Right p f g) → Joined p f g s (with-bits s a b x y)
-joined-made s p f g a b x y h k l m = record { lefts = refl; rights = refl; masks = masks; sets = sets }
+pub joined-made : (m n : ℕ) (s : Running) (p : Placing) (f g a b x y : ℕ) → a ≡ lettersOf (partsOn Left p f g) → b ≡ lettersOf (partsOn Right p f g)
+    → x ≡ compoundsOf (partsOn Left p f g) → y ≡ compoundsOf (partsOn Right p f g) → Joined m n p f g s (with-bits m n s a b x y)
+joined-made m n s p f g a b x y h k l i = record { on-left = refl; on-right = refl; masks = masks; sets = sets }
   where
-    masks : (t : Side) → maskOf t (with-bits s a b x y) ≡ bitOr (maskOf t s) (lettersOf (partsOn t p f g))
+    masks : (t : Side) → maskOf t (with-bits m n s a b x y) ≡ bitOr (maskOf t s) (lettersOf (partsOn t p f g))
     masks Left = ap (bitOr (s .leftmask)) h
     masks Right = ap (bitOr (s .rightmask)) k
 
-    sets : (t : Side) → setOf t (with-bits s a b x y) ≡ bitOr (setOf t s) (compoundsOf (partsOn t p f g))
+    sets : (t : Side) → setOf t (with-bits m n s a b x y) ≡ bitOr (setOf t s) (compoundsOf (partsOn t p f g))
     sets Left = ap (bitOr (s .leftset)) l
-    sets Right = ap (bitOr (s .rightset)) m
+    sets Right = ap (bitOr (s .rightset)) i
 
 -- a premise's masks are its letters
 premise-letters : (t : Side) (i : ℕ) (S : Seq ℕ) (p : Placing) (f g : ℕ) → i < length (on-side t S) → LETTERS ≤ getD (on-side t S) i 0

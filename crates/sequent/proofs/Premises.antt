@@ -79,8 +79,11 @@ module _ {c : Pass} {f : ℕ} {zs l n : List ℕ} (h : Stored (pass 0 0 0) c f z
       let i : k + (c .to - k) ≡ c .to = omega (arith, count) in
       take-drop k (c .to - k) n (omega (arith, within, count)) ∙ ap (λ (j : ℕ). slice k j n) i ∙ ap (drop k) both ∙ drop-at xs ys k (sym d)
 
-  two-sides : (v w x y : ℕ) → view (record { lefts = k; rights = c .to - k; leftmask = v; rightmask = w; leftset = x; rightset = y }) n ≡ record { on-left = xs; on-right = ys }
-  two-sides v w x y = λ i. record { on-left = left-side i; on-right = right-side i }
+  two-sides : (r : Running) → r .lefts ≡ k → r .rights ≡ c .to - k → view r n ≡ record { on-left = xs; on-right = ys }
+  two-sides r u v = λ i. record {
+    on-left = (ap (λ (m : ℕ). take m n) u ∙ left-side) i;
+    on-right = (ap (λ (m : ℕ). take (r .rights) (drop m n)) u ∙ ap (λ (m : ℕ). take m (drop k n)) v ∙ right-side) i;
+  }
 
   two-stores : c .stores ≡ size (record { on-left = xs; on-right = ys })
   two-stores = omega (arith, sides-size xs ys, h .stores, ap length e, length-append xs ys)
@@ -145,26 +148,15 @@ module _ (s : Running) (old : List ℕ) (full : length old ≡ ROOM) (room : s .
 
   module _ (t : Side) (h : at < countOf t s) {c : Pass} {l n : List ℕ} (stored : Stored (pass 0 0 0) c (s .lefts + s .rights) (run t) l n)
       (k : ℕ) (e : k ≡ length (leftRun t)) where
-    abbrev made : Running → Built
-    made r = record { running = record { lefts = k; rights = c .to - k; leftmask = r .leftmask; rightmask = r .rightmask; leftset = r .leftset; rightset = r .rightset }; stores = c .stores }
-
-    pub premise-made : length l ≡ ROOM → (r : Running) → Joined p f g s r → Builds t at p f g s old l n (made r)
+    pub premise-made : length l ≡ ROOM → (r : Running) → Joined k (c .to - k) p f g s r → Builds t at p f g s old l n (record { running = r; stores = c .stores })
     premise-made z r d =
         record {
-          held = two-sides stored (leftRun t) (rightRun t) (run-sides t h) k e (r .leftmask) (r .rightmask) (r .leftset) (r .rightset) ∙ sym (premise-runs t h);
+          held = two-sides stored (leftRun t) (rightRun t) (run-sides t h) k e r (d .on-left) (d .on-right) ∙ sym (premise-runs t h);
           stored = two-listed stored (leftRun t) (rightRun t) (run-sides t h) k e ∙ ap listed (sym (premise-runs t h));
           behind = two-behind stored (leftRun t) (rightRun t) (run-sides t h) k e;
           stores = two-stores stored (leftRun t) (rightRun t) (run-sides t h) k e ∙ ap size (sym (premise-runs t h));
-          counted = two-counts stored (leftRun t) (rightRun t) (run-sides t h) k e;
+          counted = omega (arith, d .on-left, d .on-right, two-counts stored (leftRun t) (rightRun t) (run-sides t h) k e);
           full = stored .size ∙ z;
-          masks = masks;
-          sets = sets;
+          masks = d .masks;
+          sets = d .sets;
         }
-      where
-        masks : (u : Side) → maskOf u (made r .running) ≡ bitOr (maskOf u s) (lettersOf (partsOn u p f g))
-        masks Left = d .masks Left
-        masks Right = d .masks Right
-
-        sets : (u : Side) → setOf u (made r .running) ≡ bitOr (setOf u s) (compoundsOf (partsOn u p f g))
-        sets Left = d .sets Left
-        sets Right = d .sets Right

@@ -97,10 +97,10 @@ Member a x = LETTERS ≤ x → bit (x % 64) a ≡ true
 abbrev pub Covered : Running → List ℕ → Type 0
 Covered s items = (t : Side) → Each (Member (setOf t s)) (on-side t (view s items))
 
--- the same places, and the letters and compounds of a premise's parts
-pub record Joined (p : Placing) (f g : ℕ) (s r : Running) : Type 0 where
-  pub lefts : r .lefts ≡ s .lefts
-  pub rights : r .rights ≡ s .rights
+-- so many places on each side, and the letters and compounds of a premise's parts beside those of s
+pub record Joined (lefts rights : ℕ) (p : Placing) (f g : ℕ) (s r : Running) : Type 0 where
+  pub on-left : r .lefts ≡ lefts
+  pub on-right : r .rights ≡ rights
   pub masks : (t : Side) → maskOf t r ≡ bitOr (maskOf t s) (lettersOf (partsOn t p f g))
   pub sets : (t : Side) → setOf t r ≡ bitOr (setOf t s) (compoundsOf (partsOn t p f g))
 

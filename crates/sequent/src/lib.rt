@@ -381,15 +381,18 @@ impl Running {
         a.copy(old, new, k).parts(new, side, p, f, g)
     }
 
-    // The letters and the compounds among a premise's parts join those of their sides.
-    fn joined(mut self, p: Placing, f: u8, g: u8) -> Running
-        ensures { λ r. ⌜ Joined p f g self r ⌝ }
+    // A premise with so many formulas on each side: the letters and the compounds among its parts join those of their sides.
+    fn joined(self, lefts: usize, rights: usize, p: Placing, f: u8, g: u8) -> Running
+        ensures { λ r. ⌜ Joined lefts rights p f g self r ⌝ }
     {
-        self.leftmask = self.leftmask | marks(Side::Left, p, f, g);
-        self.rightmask = self.rightmask | marks(Side::Right, p, f, g);
-        self.leftset = self.leftset | members(Side::Left, p, f, g);
-        self.rightset = self.rightset | members(Side::Right, p, f, g);
-        self
+        Running {
+            lefts: lefts,
+            rights: rights,
+            leftmask: self.leftmask | marks(Side::Left, p, f, g),
+            rightmask: self.rightmask | marks(Side::Right, p, f, g),
+            leftset: self.leftset | members(Side::Left, p, f, g),
+            rightset: self.rightset | members(Side::Right, p, f, g),
+        }
     }
 }
 
@@ -413,7 +416,6 @@ impl Running {
             × (size (premise side at (view self (now old)) (placed p f g)) ≤ ROOM) ⌝ }
         ensures { λ r. ⌜ Builds side at p f g self (now (old .entry)) (now (new .entry)) (now (new .exit)) r ⌝ }
     {
-        let s = self.joined(p, f, g);
         let n = self.lefts + self.rights;
         let start = Pass {
             from: 0,
@@ -427,14 +429,7 @@ impl Running {
                 let e = self.append(l, old, new, Side::Right, p, f, g);
                 let k = l.to + (lefts - l.from);
                 Built {
-                    running: Running {
-                        lefts: k,
-                        rights: e.to - k,
-                        leftmask: s.leftmask,
-                        rightmask: s.rightmask,
-                        leftset: s.leftset,
-                        rightset: s.rightset,
-                    },
+                    running: self.joined(k, e.to - k, p, f, g),
                     stores: e.stores,
                 }
             }
@@ -444,14 +439,7 @@ impl Running {
                 let e = r.copy(old, new, n);
                 let k = l.to;
                 Built {
-                    running: Running {
-                        lefts: k,
-                        rights: e.to - k,
-                        leftmask: s.leftmask,
-                        rightmask: s.rightmask,
-                        leftset: s.leftset,
-                        rightset: s.rightset,
-                    },
+                    running: self.joined(k, e.to - k, p, f, g),
                     stores: e.stores,
                 }
             }

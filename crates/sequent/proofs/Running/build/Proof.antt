@@ -20,7 +20,7 @@ fits c = let a = c .args in let h = c .pre in omega (arith, h .4, premise-size (
 
 replace-requires : tie.Need-replace-requires
 replace-requires c κs =
-    let s = c .before .before .before .before .before in
+    let s = c .before .before .before .before in
     let a = s .args in
     let h = s .pre in
     let inside = rw (c .before .enum-told .given .1) at (h .0) in
@@ -28,7 +28,7 @@ replace-requires c κs =
 
 append-requires : tie.Need-append-requires
 append-requires c κs =
-    let s = c .before .before .before .before .before .before .before in
+    let s = c .before .before .before .before .before .before in
     let a = s .args in
     let h = s .pre in
     let inside = rw (c .before .before .before .enum-told .given .1) at (h .0) in
@@ -41,20 +41,20 @@ append-requires c κs =
     )
 
 sub-k : tie.Need-sub-k
-sub-k c = let inside = rw (c .before .before .before .before .before .enum-told .given .1) at (c .before .before .before .before .before .before .before .before .before .pre .0) in omega (arith, inside, c .before .before .before .replace .ensures .from)
+sub-k c = let inside = rw (c .before .before .before .before .before .enum-told .given .1) at (c .before .before .before .before .before .before .before .before .pre .0) in omega (arith, inside, c .before .before .before .replace .ensures .from)
 
 add-k : tie.Need-add-k
 add-k c =
-    let s = c .before .before .before .before .before .before .before .before .before .before in
+    let s = c .before .before .before .before .before .before .before .before .before in
     let a = s .args in
     let h = s .pre in
     let inside = rw (c .before .before .before .before .before .before .enum-told .given .1) at (h .0) in
     let l = c .before .before .before .before .replace in
     omega (arith, h, inside, fits s, l .ensures .from, l .ensures .to, end-length 0 (a .at) (partsOn Left (a .p) (a .f) (a .g)) (a .old .now) (omega arith) (omega (arith, h, inside)))
 
-sub-rights : tie.Need-sub-t24
-sub-rights c =
-    let s = c .before .before .before .before .before .before .before .before .before .before .before in
+sub-joined : tie.Need-sub-joined
+sub-joined c =
+    let s = c .before .before .before .before .before .before .before .before .before .before in
     let a = s .args in
     let h = s .pre in
     let inside = rw (c .before .before .before .before .before .before .before .enum-told .given .1) at (h .0) in
@@ -66,11 +66,11 @@ returns c =
     let s = c .before .before .before .before .before .before .before .before .before .before .before in
     let a = s .args in
     let h = s .pre in
-    let told = c .before .before .before .before .before .before .before .enum-told .given .1 in
+    let told = c .before .before .before .before .before .before .before .before .enum-told .given .1 in
     let inside = rw told at (h .0) in
-    let l = c .before .before .before .before .before .replace in
-    let e = c .before .before .before .append in
-    let m = c .before .before .before .before .before .before .before .before .before .before .joined in
+    let l = c .before .before .before .before .before .before .replace in
+    let e = c .before .before .before .before .append in
+    let m = c .joined in
     rw told (premise-made (a .self) (a .old .now) (h .2) (h .1) (a .p) (a .f) (a .g) (a .at) Left inside
     (chain-at (λ (v : ℕ). slice v (a .self .lefts + a .self .rights) (a .old .now) ++ partsOn Right (a .p) (a .f) (a .g)) (l .ensures) (e .ensures))
     (l .result .to + (a .self .lefts - l .result .from))
@@ -81,7 +81,7 @@ returns c =
 
 append-requires-2 : tie.Need-append-requires-2
 append-requires-2 c κs =
-    let s = c .before .before .before .before .before in
+    let s = c .before .before .before .before in
     let a = s .args in
     let h = s .pre in
     let inside = rw (c .before .enum-told2 .given .1) at (h .0) in
@@ -89,7 +89,7 @@ append-requires-2 c κs =
 
 replace-requires-2 : tie.Need-replace-requires-2
 replace-requires-2 c κs =
-    let s = c .before .before .before .before .before .before .before in
+    let s = c .before .before .before .before .before .before in
     let a = s .args in
     let h = s .pre in
     let inside = rw (c .before .before .before .enum-told2 .given .1) at (h .0) in
@@ -104,7 +104,7 @@ replace-requires-2 c κs =
 
 copy-requires : tie.Need-copy-requires
 copy-requires c κs =
-    let s = c .before .before .before .before .before .before .before .before .before in
+    let s = c .before .before .before .before .before .before .before .before in
     let a = s .args in
     let h = s .pre in
     let inside = rw (c .before .before .before .before .before .enum-told2 .given .1) at (h .0) in
@@ -134,13 +134,13 @@ returns-2 c =
     let s = c .before .before .before .before .before .before .before .before .before .before .before in
     let a = s .args in
     let h = s .pre in
-    let told = c .before .before .before .before .before .before .before .enum-told2 .given .1 in
+    let told = c .before .before .before .before .before .before .before .before .enum-told2 .given .1 in
     let inside = rw told at (h .0) in
-    let l = c .before .before .before .before .before .append2 in
-    let m = c .before .before .before .before .before .before .before .before .before .before .joined in
+    let l = c .before .before .before .before .before .before .append2 in
+    let m = c .joined2 in
     rw told (premise-made (a .self) (a .old .now) (h .2) (h .1) (a .p) (a .f) (a .g) (a .at) Right inside
     (chain-at (λ (v : ℕ). slice v (a .self .lefts + a .self .rights) (a .old .now))
-    (chain-at (λ (v : ℕ). slice v (a .self .lefts + a .at) (a .old .now) ++ partsOn Right (a .p) (a .f) (a .g)) (l .ensures) (c .before .before .before .replace2 .ensures)) (c .before .copy .ensures))
+    (chain-at (λ (v : ℕ). slice v (a .self .lefts + a .at) (a .old .now) ++ partsOn Right (a .p) (a .f) (a .g)) (l .ensures) (c .before .before .before .before .replace2 .ensures)) (c .before .before .copy .ensures))
     (l .result .to)
     (omega (arith, l .ensures .to))
     (h .3) (m .result) (m .ensures))
@@ -149,18 +149,19 @@ pub build-spec : {M : Type 1} → statement M
 build-spec =
     tie.close
     (tie.spec
-    (λ c κs. search needs)
     (λ c. search needs)
     (λ c. search needs)
     replace-requires
     append-requires
     sub-k
     add-k
-    sub-rights
+    sub-joined
+    (λ c κs. search needs)
     (λ c. search needs)
     append-requires-2
     replace-requires-2
     copy-requires
     (λ c. search needs)
+    (λ c κs. search needs)
     returns
     returns-2)

@@ -18,4 +18,4 @@ joined-spec =
     let y = c .before .before .before .before .before .marks2 in
     let v = c .before .before .before .members in
     let w = c .before .members2 in
-    joined-made (a .self) (a .p) (a .f) (a .g) (x .result) (y .result) (v .result) (w .result) (x .ensures) (y .ensures) (v .ensures) (w .ensures)))
+    joined-made (a .lefts) (a .rights) (a .self) (a .p) (a .f) (a .g) (x .result) (y .result) (v .result) (w .result) (x .ensures) (y .ensures) (v .ensures) (w .ensures)))
