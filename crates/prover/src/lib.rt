@@ -14,6 +14,7 @@ use sequent::Running;
 ghost use mathlib.Core.Path.{_≡_};
 ghost use mathlib.Core.Option.{none};
 ghost use Prim.Native.Nat.{_%_, _≤_};
+ghost use lib.ListN.{length};
 ghost use Rattle.calculus.specs.Limits;
 ghost use Rattle.calculus.specs.Limits.{CONNECTIVES};
 ghost use Rattle.calculus.specs.Syntax.{Connective, c, size};
@@ -174,7 +175,7 @@ fn run(nodes: &[u32; 48], items: &[u8; 80], s: Running, from: usize, left: u64) 
     }
 }
 
-// A premise of the reduction, made and run.
+// A premise of the reduction, made in a list that is lent for it, and run.
 fn run_premise(
     nodes: &[u32; 48],
     items: &[u8; 80],
@@ -182,18 +183,21 @@ fn run_premise(
     r: Reduction,
     p: Placing,
     left: u64,
+    next: &mut [u8; 80],
 ) -> Reduced
     requires { ⌜
         Makes (now nodes) (now items) s r p
         × Found (view s (now items)) (At (r .side) (r .at))
-        × (c (sequentOf (now nodes) (now items) s) ≤ CONNECTIVES) ⌝ }
-    ensures { λ u. ⌜ Ran left (premiseBy (now (nodes .entry)) (now (items .entry)) s r p) u ⌝ }
+        × (c (sequentOf (now nodes) (now items) s) ≤ CONNECTIVES)
+        × (length (now next) ≡ Limits.ROOM) ⌝ }
+    ensures { λ u. ⌜
+        Ran left (premiseBy (now (nodes .entry)) (now (items .entry)) s r p) u
+        × (length (now (next .exit)) ≡ Limits.ROOM) ⌝ }
 {
-    let mut next = [0u8; 80];
-    let made = s.premise(items, &mut next, r, p);
+    let made = s.premise(items, next, r, p);
     let t = made.running;
     let side = r.side;
-    let o = run(nodes, &next, t, s.start(side, r.at), left);
+    let o = run(nodes, next, t, s.start(side, r.at), left);
     let kind = o.kind;
     Reduced {
         kind: kind,
@@ -216,9 +220,10 @@ fn reduce(nodes: &[u32; 48], items: &[u8; 80], s: Running, r: Reduction, left: u
     let mut closings = 0;
     let mut pairings = 0;
     let mut stores = 0;
+    let mut next = [0u8; 80];
     let mut j = 0;
     while j < n {
-        let o = run_premise(nodes, items, s, r, p, unspent);
+        let o = run_premise(nodes, items, s, r, p, unspent, &mut next);
         unspent = o.unspent;
         closings += o.closings;
         pairings += o.pairings;

@@ -3,12 +3,13 @@ use mathlib.Core.Path.{_≡_, sym, ap, _∙_, subst}
 use mathlib.Core.List.{[], _∷_}
 use Prim.Native.Nat.{ℕ, _+_, _-_, _*_, _^_, _≤_, _<_}
 use native.Mathlib.Omega.{arith}
+use lib.ListN.{length}
 use borrow.Author.Needs.{needs}
 use borrow.Fn.Kinds.{In}
 use borrow.Fn.PlainCycle.{Measures, is, falls, and}
 use types.Run.{miss}
 use Rattle.calculus.specs.declared.Outcome.{Outcome}
-use Rattle.calculus.specs.Limits.{CONNECTIVES}
+use Rattle.calculus.specs.Limits.{CONNECTIVES, ROOM}
 use Rattle.calculus.specs.Syntax.{c as connectivesOf}
 use Rattle.calculus.specs.Tree.{outcome}
 use Rattle.sequent.specs.declared.Rule.{Rule}
@@ -39,7 +40,7 @@ abbrev μ-reduce : Measures 2 reduce-kinds.ps ℕ
 abbrev μ-run : Measures 2 run-kinds.ps ℕ
 μ-run κs a = 3 * connectivesOf (sequentOf (a .0 .now) (a .1 .0 .now) (a .1 .1 .0)) + 2
 
-abbrev μ-run-premise : Measures 2 run-premise-kinds.ps ℕ
+abbrev μ-run-premise : Measures 3 run-premise-kinds.ps ℕ
 μ-run-premise κs a = 3 * connectivesOf (sequentOf (a .0 .now) (a .1 .0 .now) (a .1 .1 .0))
 
 abbrev reduce-at : ℕ → In 2 reduce-kinds.ps
@@ -54,22 +55,22 @@ run-at t = and 2 run-kinds.ps (is 2 run-kinds.ps μ-run t) run.Pre
 abbrev run-below : ℕ → In 2 run-kinds.ps
 run-below t = and 2 run-kinds.ps (falls 2 run-kinds.ps _<_ μ-run t) run.Pre
 
-abbrev run-premise-at : ℕ → In 2 run-premise-kinds.ps
+abbrev run-premise-at : ℕ → In 3 run-premise-kinds.ps
 run-premise-at t =
-    and 2 run-premise-kinds.ps (is 2 run-premise-kinds.ps μ-run-premise t) run-premise.Pre
+    and 3 run-premise-kinds.ps (is 3 run-premise-kinds.ps μ-run-premise t) run-premise.Pre
 
-abbrev run-premise-below : ℕ → In 2 run-premise-kinds.ps
+abbrev run-premise-below : ℕ → In 3 run-premise-kinds.ps
 run-premise-below t =
-    and 2 run-premise-kinds.ps (falls 2 run-premise-kinds.ps _<_ μ-run-premise t) run-premise.Pre
+    and 3 run-premise-kinds.ps (falls 3 run-premise-kinds.ps _<_ μ-run-premise t) run-premise.Pre
 
 -- ---- the loop over the premises
 
 abbrev reduce-Inv-loop : reduce-lts.InvT-loop
-reduce-Inv-loop nodes items s r left rule n p₀ unspent₀ closings₀ pairings₀ stores₀ j₀ p unspent closings pairings stores j =
-    Ahead (premiseBy nodes items s r) (ruleFor r) left j unspent closings pairings stores p
+reduce-Inv-loop nodes items s r left rule n p₀ unspent₀ closings₀ pairings₀ stores₀ next₀ j₀ p unspent closings pairings stores next j =
+    Ahead (premiseBy nodes items s r) (ruleFor r) left j unspent closings pairings stores p × (length next ≡ ROOM)
 
 abbrev reduce-μ-loop : reduce-lts.MeasureT-loop
-reduce-μ-loop nodes items s r left rule n p₀ unspent₀ closings₀ pairings₀ stores₀ j₀ p unspent closings pairings stores j = n - j
+reduce-μ-loop nodes items s r left rule n p₀ unspent₀ closings₀ pairings₀ stores₀ next₀ j₀ p unspent closings pairings stores next j = n - j
 
 abbrev reduce-calls : ℕ → reduce-lts.Claims
 reduce-calls t = (rule-reads.Asked, rule-reads.Learnt, run-premise-below t, run-premise.Post)
@@ -87,7 +88,7 @@ makes-now t c =
     let a = s .args in
     let h = s .pre .1 in
     let l = c .before .loop in
-    makes-next (a .nodes .now) (a .items .now) (a .s) (h .0 .good) (a .r) (h .0 .can) (l .j) (l .p) (l .inv .next) (taken-now t c)
+    makes-next (a .nodes .now) (a .items .now) (a .s) (h .0 .good) (a .r) (h .0 .can) (l .j) (l .p) (l .inv .0 .next) (taken-now t c)
 
 j-small : (t : ℕ) (c : InLoop t) → c .before .loop .j < 2
 j-small t c =
@@ -100,19 +101,19 @@ j-small t c =
 closings-now : (t : ℕ) (c : reduce-lts.After-run-premise (reduce-calls t) (reduce-at t) reduce.Post reduce-Inv-loop reduce-μ-loop)
     → c .run-premise .result .closings ≤ 2 ^ CONNECTIVES
 closings-now t c =
-    let s = c .before .before .before .before .before in
+    let s = c .before .before .before .before .before .before in
     let a = s .args in
-    let l = c .before .before .loop in
+    let l = c .before .before .before .loop in
     let P = premiseBy (a .nodes .now) (a .items .now) (a .s) (a .r) (l .p) in
-    omega (arith, ap (λ (o : Outcome). o .closings) (c .run-premise .ensures .outcome), closings-small (l .unspent) P (omega (arith, makes-now t (c .before) .fewer, s .pre .1 .1)))
+    omega (arith, ap (λ (o : Outcome). o .closings) (c .run-premise .ensures .0 .outcome), closings-small (l .unspent) P (omega (arith, makes-now t (c .before .before) .fewer, s .pre .1 .1)))
 
 pairings-now : (t : ℕ) (c : reduce-lts.After-run-premise (reduce-calls t) (reduce-at t) reduce.Post reduce-Inv-loop reduce-μ-loop)
     → c .run-premise .result .pairings ≤ c .run-premise .result .closings
 pairings-now t c =
-    let s = c .before .before .before .before .before in
+    let s = c .before .before .before .before .before .before in
     let a = s .args in
-    let l = c .before .before .loop in
-    subst (λ (o : Outcome). o .pairings ≤ o .closings) (sym (c .run-premise .ensures .outcome)) (pairings-small (l .unspent) (premiseBy (a .nodes .now) (a .items .now) (a .s) (a .r) (l .p)))
+    let l = c .before .before .before .loop in
+    subst (λ (o : Outcome). o .pairings ≤ o .closings) (sym (c .run-premise .ensures .0 .outcome)) (pairings-small (l .unspent) (premiseBy (a .nodes .now) (a .items .now) (a .s) (a .r) (l .p)))
 
 pub +reduce+run+run-premise-spec : {M : Type 1} → statement M
 +reduce+run+run-premise-spec = close μ-reduce μ-run μ-run-premise (λ t. reduce-lts.spec (reduce-calls t)
@@ -128,42 +129,44 @@ pub +reduce+run+run-premise-spec : {M : Type 1} → statement M
     let s = c .before .before in
     let a = s .args in
     let h = s .pre .1 in
-    subst (λ (u : Rule). Ahead (premiseBy (a .nodes .now) (a .items .now) (a .s) (a .r)) (ruleFor (a .r)) (a .left) 0 (a .left) 0 0 0 (u .first)) (sym (c .before .rule .ensures)) (ahead-starts (premiseBy (a .nodes .now) (a .items .now) (a .s) (a .r)) (ruleFor (a .r)) (few (a .nodes .now) (a .items .now) (a .s) (h .0 .good) (a .r) (h .0 .can)) (a .left)))
+    (subst (λ (u : Rule). Ahead (premiseBy (a .nodes .now) (a .items .now) (a .s) (a .r)) (ruleFor (a .r)) (a .left) 0 (a .left) 0 0 0 (u .first)) (sym (c .before .rule .ensures)) (ahead-starts (premiseBy (a .nodes .now) (a .items .now) (a .s) (a .r)) (ruleFor (a .r)) (few (a .nodes .now) (a .items .now) (a .s) (h .0 .good) (a .r) (h .0 .can)) (a .left)), search needs))
     (λ c κs.
-    let s = c .before .before .before .before in
+    let s = c .before .before .before .before .before in
     let h = s .pre .1 in
-    (omega (arith, s .pre .0), (makes-now t c, h .0 .found, h .1)))
-    (λ c. omega (arith, closings-now t (c .before), j-small t (c .before .before), c .before .before .before .loop .inv .few))
-    (λ c. omega (arith, closings-now t (c .before .before), pairings-now t (c .before .before), j-small t (c .before .before .before), c .before .before .before .before .loop .inv .few, c .before .before .before .before .loop .inv .among))
-    (λ c. omega (arith, c .before .before .before .run-premise .ensures .stores, makes-now t (c .before .before .before .before) .small, j-small t (c .before .before .before .before), c .before .before .before .before .before .loop .inv .small))
+    (omega (arith, s .pre .0), (makes-now t (c .before), h .0 .found, h .1, c .before .before .loop .inv .1)))
+    (λ c. omega (arith, closings-now t (c .before), j-small t (c .before .before .before), c .before .before .before .before .loop .inv .0 .few))
+    (λ c. omega (arith, closings-now t (c .before .before), pairings-now t (c .before .before), j-small t (c .before .before .before .before), c .before .before .before .before .before .loop .inv .0 .few, c .before .before .before .before .before .loop .inv .0 .among))
+    (λ c. omega (arith, c .before .before .before .run-premise .ensures .0 .stores, makes-now t (c .before .before .before .before .before) .small, j-small t (c .before .before .before .before .before), c .before .before .before .before .before .before .loop .inv .0 .small))
     (λ c. search needs)
     (λ c.
-    let s = c .before .before .before .before .before .before .before .before .before in
+    let s = c .before .before .before .before .before .before .before .before .before .before in
     let a = s .args in
     let h = s .pre .1 in
-    let l = c .before .before .before .before .before .before .loop in
+    let l = c .before .before .before .before .before .before .before .loop in
     let u = c .before .before .before .before .run-premise in
     rw (← premises-made (a .nodes .now) (a .items .now) (a .s) (h .0 .good) (a .r) (h .0 .can))
-    (ahead-stops (premiseBy (a .nodes .now) (a .items .now) (a .s) (a .r)) (ruleFor (a .r)) (few (a .nodes .now) (a .items .now) (a .s) (h .0 .good) (a .r) (h .0 .can)) (a .left) (l .j) (l .unspent) (l .closings) (l .pairings) (l .stores) (l .p) (l .inv) (taken-now t (c .before .before .before .before .before))
-    (u .result) (u .ensures) (λ k. miss (1 ∷ 2 ∷ 3 ∷ []) 0 tt (rw k at (c .match .keys2)))))
-    (λ c. omega (arith, j-small t (c .before .before .before .before .before .before .before)))
-    (λ c. omega (arith, c .before .before .before .before .before .before .before .loop-test .taken))
+    (ahead-stops (premiseBy (a .nodes .now) (a .items .now) (a .s) (a .r)) (ruleFor (a .r)) (few (a .nodes .now) (a .items .now) (a .s) (h .0 .good) (a .r) (h .0 .can)) (a .left) (l .j) (l .unspent) (l .closings) (l .pairings) (l .stores) (l .p) (l .inv .0) (taken-now t (c .before .before .before .before .before .before))
+    (u .result) (u .ensures .0) (λ k. miss (1 ∷ 2 ∷ 3 ∷ []) 0 tt (rw k at (c .match .keys2)))))
+    (λ c. omega (arith, j-small t (c .before .before .before .before .before .before .before .before)))
+    (λ c. omega (arith, c .before .before .before .before .before .before .before .before .loop-test .taken))
     (λ c.
-    let s = c .before .before .before .before .before .before .before .before .before .before .before in
+    let s = c .before .before .before .before .before .before .before .before .before .before .before .before in
     let a = s .args in
     let h = s .pre .1 in
-    let l = c .before .before .before .before .before .before .before .before .loop in
-    let u = c .before .before .before .before .before .before .run-premise in
-    subst (λ (v : Rule). Ahead (premiseBy (a .nodes .now) (a .items .now) (a .s) (a .r)) (ruleFor (a .r)) (a .left) (l .j + 1) (u .result .unspent) (l .closings + u .result .closings) (l .pairings + u .result .pairings) (l .stores + u .result .stores) (v .second)) (sym (c .before .before .before .before .before .before .before .before .before .before .rule .ensures))
-    (ahead-goes (premiseBy (a .nodes .now) (a .items .now) (a .s) (a .r)) (ruleFor (a .r)) (few (a .nodes .now) (a .items .now) (a .s) (h .0 .good) (a .r) (h .0 .can)) (a .left) (l .j) (l .unspent) (l .closings) (l .pairings) (l .stores) (l .p) (l .inv) (taken-now t (c .before .before .before .before .before .before .before))
-    (u .result) (u .ensures) (c .before .enum-told .given .1) (closings-now t (c .before .before .before .before .before .before)) (pairings-now t (c .before .before .before .before .before .before)) (makes-now t (c .before .before .before .before .before .before .before) .small)))
+    let l = c .before .before .before .before .before .before .before .before .before .loop in
+    let u = c .before .before .before .before .before .before .run-premise in (
+      subst (λ (v : Rule). Ahead (premiseBy (a .nodes .now) (a .items .now) (a .s) (a .r)) (ruleFor (a .r)) (a .left) (l .j + 1) (u .result .unspent) (l .closings + u .result .closings) (l .pairings + u .result .pairings) (l .stores + u .result .stores) (v .second)) (sym (c .before .before .before .before .before .before .before .before .before .before .before .rule .ensures))
+          (ahead-goes (premiseBy (a .nodes .now) (a .items .now) (a .s) (a .r)) (ruleFor (a .r)) (few (a .nodes .now) (a .items .now) (a .s) (h .0 .good) (a .r) (h .0 .can)) (a .left) (l .j) (l .unspent) (l .closings) (l .pairings) (l .stores) (l .p) (l .inv .0) (taken-now t (c .before .before .before .before .before .before .before .before))
+          (u .result) (u .ensures .0) (c .before .enum-told .given .1) (closings-now t (c .before .before .before .before .before .before)) (pairings-now t (c .before .before .before .before .before .before)) (makes-now t (c .before .before .before .before .before .before .before .before) .small)),
+      u .ensures .1,
+    ))
     (λ c.
     let s = c .before .before .before .before in
     let a = s .args in
     let h = s .pre .1 in
     let l = c .before .loop in
     rw (← premises-made (a .nodes .now) (a .items .now) (a .s) (h .0 .good) (a .r) (h .0 .can))
-    (ahead-ends (premiseBy (a .nodes .now) (a .items .now) (a .s) (a .r)) (ruleFor (a .r)) (few (a .nodes .now) (a .items .now) (a .s) (h .0 .good) (a .r) (h .0 .can)) (a .left) (l .j) (l .unspent) (l .closings) (l .pairings) (l .stores) (l .p) (l .inv) (subst (λ (u : Rule). u .premises ≤ l .j) (c .before .before .before .rule .ensures) (c .loop-test .left)))))
+    (ahead-ends (premiseBy (a .nodes .now) (a .items .now) (a .s) (a .r)) (ruleFor (a .r)) (few (a .nodes .now) (a .items .now) (a .s) (h .0 .good) (a .r) (h .0 .can)) (a .left) (l .j) (l .unspent) (l .closings) (l .pairings) (l .stores) (l .p) (l .inv .0) (subst (λ (u : Rule). u .premises ≤ l .j) (c .before .before .before .rule .ensures) (c .loop-test .left)))))
     (λ t. run-lts.spec (
       step-reads.Asked,
       step-reads.Learnt,
@@ -215,7 +218,7 @@ pub +reduce+run+run-premise-spec : {M : Type 1} → statement M
     let s = c .before in
     let a = s .args in
     let w = premise-asks (a .nodes .now) (a .items .now) (a .s) (a .r) (a .p) (s .pre .1 .0) in
-    (w .0, w .1, w .2, search needs, w .3))
+    (w .0, w .1, w .2, s .pre .1 .3, w .3))
     (λ c κs. search needs)
     (λ c κs.
     let s = c .before .before .before .before .before in
@@ -236,8 +239,10 @@ pub +reduce+run+run-premise-spec : {M : Type 1} → statement M
     let a = s .args in
     let h = s .pre .1 in
     let m = c .before .before .before .before .premise in
-    let e = made-is (a .nodes .now) (a .items .now) (a .s) (a .r) (a .p) (h .0) _ (m .last .1 .1 .0) (m .result) (m .ensures) in
-    record {
-      outcome = c .run .ensures ∙ ap (outcome (a .left)) e;
-      stores = made-stores (a .nodes .now) (a .items .now) (a .s) (a .r) (a .p) (h .0) _ (m .last .1 .1 .0) (m .result) (m .ensures);
-    })
+    let e = made-is (a .nodes .now) (a .items .now) (a .s) (a .r) (a .p) (h .0) _ (m .last .1 .1 .0) (m .result) (m .ensures) in (
+      record {
+        outcome = c .run .ensures ∙ ap (outcome (a .left)) e;
+        stores = made-stores (a .nodes .now) (a .items .now) (a .s) (a .r) (a .p) (h .0) _ (m .last .1 .1 .0) (m .result) (m .ensures);
+      },
+      m .ensures .full,
+    ))
