@@ -1,11 +1,11 @@
 -- The verdict is right, and the counts are within the width. W is at most 2 to the power c.
 -- Assumes nothing.
-use mathlib.Core.Path.{_≡_, refl, sym, ap, _∙_, fun-ext}
+use mathlib.Core.Path.{_≡_, refl, sym, _∙_, fun-ext}
 use mathlib.Core.Logic.{_≢_, _↔_}
-use mathlib.Core.Bool.{Bool, true, false, not, _&&_, false≢true}
+use mathlib.Core.Bool.{Bool, true, false, _&&_, false≢true}
 use mathlib.Core.Option.{Option}
 use mathlib.Core.List.{List, [], _∷_}
-use Prim.Native.Nat.{ℕ, suc, _+_, _*_, _^_, _≤_, _<_}
+use Prim.Native.Nat.{ℕ, _+_, _*_, _^_, _≤_, _<_}
 use native.Mathlib.Nat.{pow-suc, le-mul-of-pos-right, mul-comm, mul-add, one-le-mul, mul-le-mul, mul-le-mul-right, le-refl, add-mul}
 use native.Mathlib.Omega.{arith}
 use borrow.Author.Tests.{not-false}

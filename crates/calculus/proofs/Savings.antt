@@ -19,7 +19,7 @@ use Rattle.calculus.specs.Syntax.{Compound, Sequent, over, size, c}
 use Rattle.calculus.specs.Limits.{ROOM}
 use Rattle.calculus.specs.Truth.{truth, Valid}
 use Rattle.calculus.specs.Table.{premises}
-use Rattle.calculus.specs.Tree.{letters, common, Twins, unlike, alike, twins, Way, lettered, paired, either, closing, closingByLetter, First, missing, here, first, Step, closed, opened, full, reduced, tests, stepBy, Event, Tree, follow, chain, grow, treeBy, tree, isReduce, isClose, reductions, closings}
+use Rattle.calculus.specs.Tree.{letters, common, Twins, unlike, alike, twins, Way, paired, either, closing, closingByLetter, First, missing, here, first, Step, closed, opened, full, reduced, tests, stepBy, Event, Tree, follow, chain, grow, treeBy, tree, isReduce, isClose, reductions, closings}
 use Rattle.calculus.specs.Width.{W}
 use Rattle.calculus.specs.Derivation.{writtenAll}
 use Rattle.calculus.proofs.Folds.{fold-append, each}

@@ -13,7 +13,7 @@ use Rattle.calculus.specs.Limits.{CUT-SHORT, UNKNOWN-COMMAND, NO-FORMULA
 use Rattle.calculus.specs.Syntax.{AND, OR, IMPLIES, EQUIV, Connective, NOT, two, Formula, letter, neg, join, Compound, whole, Sequent, on-side}
 use Rattle.calculus.specs.Bytes.{CONNECTIVE, code, same}
 use Rattle.calculus.specs.Table.{premises}
-use Rattle.calculus.specs.Tree.{letters, among, Way, lettered, paired, Event, close, reduce, tree}
+use Rattle.calculus.specs.Tree.{letters, among, lettered, paired, Event, close, reduce, tree}
 
 -- ---- commands: a byte and its operand, or two operands
 

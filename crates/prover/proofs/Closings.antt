@@ -5,12 +5,11 @@ use mathlib.Core.Bool.{true, false, _&&_, false≢true}
 use mathlib.Core.Logic.{_⊎_, inl, inr}
 use mathlib.Core.Option.{Option, none, some}
 use mathlib.Core.List.{List}
-use Prim.Native.Nat.{ℕ, zero, suc, _/_, _%_, _^_, min, _≤_, _<_}
+use Prim.Native.Nat.{ℕ, zero, suc, _/_, _%_, _^_, _≤_, _<_}
 use native.Mathlib.Nat.{pow-suc}
 use native.Mathlib.Omega.{arith}
 use lib.Bits.{bitAnd, and-lt}
 use lib.Count.{trailingZeros, under}
-use lib.Dec.{eqb}
 use Rattle.calculus.specs.Limits.{LETTERS}
 use Rattle.calculus.specs.Truth.{bit}
 use Rattle.calculus.specs.Tree.{among, common, state}

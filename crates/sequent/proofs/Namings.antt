@@ -4,7 +4,7 @@ use mathlib.Core.Path.{_≡_, refl, sym, ap, _∙_, subst}
 use mathlib.Core.List.{List}
 use Prim.Native.Nat.{ℕ, zero, suc, _+_, _-_, _%_, _≤_, _<_}
 use native.Mathlib.Omega.{arith}
-use lib.ListN.{length, getD}
+use lib.ListN.{length}
 use borrow.Author.Tests.{lt-ltb, le-ltb}
 use Rattle.calculus.specs.Limits.{LETTERS, CONNECTIVES}
 use Rattle.calculus.specs.Syntax.{AND, OR, IMPLIES, EQUIV, Binary, Connective, NOT, two, Formula, letter, neg, join, whole}

@@ -4,7 +4,6 @@ use mathlib.Core.Path.{_≡_, refl, sym, ap, _∙_}
 use mathlib.Core.List.{List, _++_, append-assoc}
 use Prim.Native.Nat.{ℕ, suc, _+_, _-_, _≤_, _<_}
 use native.Mathlib.Omega.{arith}
-use lib.Bits.{bitOr}
 use lib.ListN.{length, take, drop, length-append, length-take, take-append-drop}
 use lib.Seq.{slice, length-slice, take-add, take-at, take-take, drop-at, drop-append-le, drop-drop, length-take-le}
 use Rattle.calculus.specs.declared.Side.{Side}
@@ -17,8 +16,7 @@ use Rattle.sequent.specs.Rule.{partsOn, placed}
 use Rattle.sequent.proofs.Lists.{on-left, on-right, ones}
 use Rattle.sequent.specs.declared.Pass.{Pass}
 use Rattle.sequent.specs.declared.Running.{Running}
-use Rattle.sequent.specs.declared.Built.{Built}
-use Rattle.sequent.specs.View.{view, countOf, endOf, maskOf, setOf, lettersOf, compoundsOf, Joined}
+use Rattle.sequent.specs.View.{view, countOf, endOf, Joined}
 use Rattle.sequent.specs.Passes.{Fits, Stored, listed, Builds}
 use Rattle.sequent.proofs.Passes.{pass}
 

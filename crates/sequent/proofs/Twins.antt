@@ -1,6 +1,6 @@
 -- Compounds on both sides: the search of the places.
 -- Assumes nothing.
-use mathlib.Core.Path.{_≡_, refl, sym, ap, _∙_}
+use mathlib.Core.Path.{_≡_, sym, ap, _∙_}
 use mathlib.Core.List.{List}
 use Prim.Native.Nat.{ℕ, _+_, _-_, _≤_, _<_}
 use native.Mathlib.Omega.{arith}
@@ -14,7 +14,7 @@ use Rattle.calculus.specs.Limits.{ROOM, LETTERS}
 use Rattle.calculus.specs.Syntax.{on-side}
 use Rattle.sequent.specs.declared.Running.{Running}
 use Rattle.sequent.specs.declared.Pair.the-variants.{Both, Neither}
-use Rattle.sequent.specs.View.{view, countOf, slotOf, nameAt, setOf, Member, Covered}
+use Rattle.sequent.specs.View.{view, countOf, slotOf, nameAt, Member, Covered}
 use Rattle.sequent.specs.Compounds.{Stands, EqualAt, Paired}
 use Rattle.sequent.proofs.Lists.{each-at}
 use Rattle.sequent.proofs.Sets.{meeting}

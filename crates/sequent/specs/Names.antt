@@ -7,7 +7,7 @@ use lib.Dec.{eqb, ltb}
 use lib.ListN.{length, getD}
 use Rattle.calculus.specs.Fold.{choose}
 use Rattle.calculus.specs.Limits.{LETTERS}
-use Rattle.calculus.specs.Syntax.{AND, OR, IMPLIES, EQUIV, Connective, NOT, two, Formula, letter, neg, join, compound, connectives}
+use Rattle.calculus.specs.Syntax.{AND, OR, IMPLIES, EQUIV, Connective, NOT, two, Formula, letter, neg, join, compound}
 use Rattle.calculus.specs.Bytes.{CONNECTIVE, code}
 
 -- a connective's command and the names of its parts; NOT has its one part for both

@@ -1,13 +1,13 @@
-use mathlib.Core.Path.{_≡_, ap, _∙_}
-use mathlib.Core.Option.{Option, none, some}
+use mathlib.Core.Path.{_≡_, ap}
+use mathlib.Core.Option.{Option, none}
 use Prim.Native.Nat.{ℕ, _^_, _<_}
 use native.Mathlib.Omega.{arith}
 use borrow.Author.Needs.{needs}
 use Rattle.calculus.specs.declared.Side.the-variants.{Left, Right}
 use Rattle.calculus.specs.Limits.{LETTERS}
-use Rattle.calculus.specs.Tree.{letters, common, twins, lettered, paired, either}
+use Rattle.calculus.specs.Tree.{letters, common, twins, paired, either}
 use Rattle.sequent.specs.declared.Pair.the-variants.{Both, Neither}
-use Rattle.sequent.specs.View.{view, sequentOf}
+use Rattle.sequent.specs.View.{sequentOf}
 use Rattle.sequent.proofs.Goods.{masks-state, twins-are}
 use Rattle.prover.proofs.Closings.{no-common, lowest-common}
 use Rattle.prover.proofs.Steps.{inner-closed, pair-small}

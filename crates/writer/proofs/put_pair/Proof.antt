@@ -3,7 +3,6 @@ use mathlib.Core.List.{List}
 use Prim.Native.Nat.{ℕ, _+_}
 use native.Mathlib.Omega.{arith}
 use lib.ListN.{set, length-set}
-use borrow.Author.Needs.{needs}
 use Rattle.calculus.specs.Derivation.{PAIR, orderCode}
 use Rattle.writer.proofs.Writes.{sets-three}
 use Rattle.writer.proofs.put_pair.Statement.{statement}
