@@ -61,7 +61,7 @@ fn put_verdict(q: &[u8], v: Verdict, w: u64, out: &mut [u8]) -> usize
             put_derivation(q, out, end)
         }
         Kind::Refuted(state) => {
-            let numbers = [state as u64, v.reductions, v.closings, w];
+            let numbers = [state, v.reductions, v.closings, w];
             print::put_line(b"refuted", &numbers, out, 0)
         }
         Kind::Spent => print::put_line(b"spent", &counts, out, 0),

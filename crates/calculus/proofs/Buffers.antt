@@ -39,8 +39,8 @@ room xs vs old h = rw (le-ltb (length old) (length xs) h)
 -- ---- by the test of the letters
 
 pub many-letters : (S : Sequent) (old : List ℕ) → VARIED < length (lettersIn S)
-    → listOut (ltb VARIED (length (lettersIn S))) S old ≡ unwritten MANY-LETTERS (length (lettersIn S) ∷ []) old
+    → listOut (ltb VARIED (length (lettersIn S))) (lettersIn S) S old ≡ unwritten MANY-LETTERS (length (lettersIn S) ∷ []) old
 many-letters S old h = rw (lt-ltb VARIED (length (lettersIn S)) h)
 
-pub few-letters : (S : Sequent) (old : List ℕ) → length (lettersIn S) ≤ VARIED → listOut (ltb VARIED (length (lettersIn S))) S old ≡ fillOut (refuting S) [] old
+pub few-letters : (S : Sequent) (old : List ℕ) → length (lettersIn S) ≤ VARIED → listOut (ltb VARIED (length (lettersIn S))) (lettersIn S) S old ≡ fillOut (refuting S) [] old
 few-letters S old h = rw (le-ltb VARIED (length (lettersIn S)) h)

@@ -9,7 +9,7 @@ use Rattle.calculus.specs.Bytes.{question}
 use Rattle.calculus.specs.Derivation.{derivation}
 use Rattle.calculus.specs.Reading.{accepted, reading}
 use Rattle.calculus.specs.Tree.{verdict}
-use Rattle.calculus.specs.States.{lettersIn, refuting}
+use Rattle.calculus.specs.States.{lettersUnder, refuting}
 use Rattle.calculus.specs.Width.{W}
 use Rattle.calculus.specs.Starred.{Case, starred, refutations}
 use Rattle.calculus.specs.Numbers.{numbers}
@@ -38,9 +38,9 @@ pub starred-right : (map (λ q. reading (q .bytes)) starred ≡ map (λ q. accep
 starred-right = (refl, refl)
 
 pub refutations-right : map (λ q. refuting (question (q .bytes))) starred ≡ refutations
-unfolding lettersIn
+unfolding lettersUnder
 refutations-right = refl
 
 pub numbers-right : map (λ r. r .replied) numbers ≡ map (λ r. r .printed) numbers
-unfolding lettersIn
+unfolding lettersUnder
 numbers-right = refl

@@ -16,3 +16,4 @@ pub mod States
 pub mod Refutations
 pub mod Cases
 pub mod Savings
+pub mod Widening

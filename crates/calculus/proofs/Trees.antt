@@ -10,12 +10,13 @@ use native.Mathlib.Nat.{zero-max, pow-suc, min-eq-left, min-eq-right, le-refl}
 use native.Mathlib.Omega.{arith}
 use borrow.Author.Tests.{eqb-true, eq-eqb, le-ltb}
 use lib.Bits.{bitOr, or-step, or-zero-l}
+use lib.Pow.{pow-pos}
 use lib.Dec.{eqb, ltb, eqb·zero-suc, eqb·suc-zero, eqb·suc-suc}
 use lib.ListN.{getElem?}
 use Rattle.calculus.specs.declared.Side.{Side}
 use Rattle.calculus.specs.declared.Side.the-variants.{Left, Right}
 use Rattle.calculus.specs.Fold.{fold, ANY, SUM, Each, choose}
-use Rattle.calculus.specs.Limits.{ROOM, LETTERS}
+use Rattle.calculus.specs.Limits.{ROOM}
 use Rattle.calculus.specs.Syntax.{Connective, NOT, two, Formula, letter, neg, join, Compound, compound, whole, Sequent, over, c, size}
 use Rattle.calculus.specs.Truth.{bit, value, says, truth}
 use Rattle.calculus.specs.Bytes.{same}
@@ -60,14 +61,14 @@ light-or (suc k) σ =
     let z : 2 ^ suc k % 2 ≡ 0 = omega (arith, pow-suc 2 k) in
     or-step (2 ^ suc k) σ ∙ rw (a, z, light-or k (σ / 2), zero-max)
 
-light-lt : (n k σ : ℕ) → k < n → σ < 2 ^ n → light k σ < 2 ^ n
+pub light-lt : (n k σ : ℕ) → k < n → σ < 2 ^ n → light k σ < 2 ^ n
 light-lt zero k σ h l = absurd (omega arith)
 light-lt (suc n) zero σ h l = omega (arith, pow-suc 2 n)
 light-lt (suc n) (suc k) σ h l = omega (arith, pow-suc 2 n, light-lt n k (σ / 2) (omega arith) (omega (arith, pow-suc 2 n)))
 
-pub state-lt : (ks : List ℕ) → Each (λ k. k < LETTERS) ks → state ks < 2 ^ LETTERS
-state-lt [] h = omega arith
-state-lt (k ∷ ks) h = light-lt LETTERS k (state ks) (h .0) (state-lt ks (h .1))
+pub state-lt : (n : ℕ) (ks : List ℕ) → Each (λ k. k < n) ks → state ks < 2 ^ n
+state-lt n [] h = pow-pos n
+state-lt n (k ∷ ks) h = light-lt n k (state ks) (h .0) (state-lt n ks (h .1))
 
 -- ---- the closing test
 

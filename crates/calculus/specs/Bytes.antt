@@ -8,7 +8,7 @@ use lib.ListN.{length, take, drop}
 use Rattle.calculus.specs.declared.Side.{Side}
 use Rattle.calculus.specs.declared.Side.the-variants.{Left, Right}
 use Rattle.calculus.specs.Fold.{Each, find}
-use Rattle.calculus.specs.Limits.{FORMULAS, CONNECTIVES, LETTERS}
+use Rattle.calculus.specs.Limits.{Limits, LIMITS}
 use Rattle.calculus.specs.Syntax.{AND, OR, IMPLIES, EQUIV, Connective, NOT, two, Formula, letter, neg, join, Sequent, on-side, c}
 
 -- ---- commands, one byte each
@@ -117,15 +117,23 @@ startOf s i S = sideStart s S + bytesAll (take i (on-side s S))
 
 -- ---- "has at most"
 
+-- its letters are among the first n
+abbrev pub LetteredUnder : ℕ → Formula → Type 0
+LetteredUnder n (letter k) = k < n
+LetteredUnder n (neg x) = LetteredUnder n x
+LetteredUnder n (join b x y) = LetteredUnder n x × LetteredUnder n y
+
+-- within any limits
+pub record WithinUnder (L : Limits) (S : Sequent) : Type 0 where
+  pub lefts : length (S .on-left) ≤ L .formulas
+  pub rights : length (S .on-right) ≤ L .formulas
+  pub connectives : c S ≤ L .connectives
+  pub letters-left : Each (LetteredUnder (L .letters)) (S .on-left)
+  pub letters-right : Each (LetteredUnder (L .letters)) (S .on-right)
+
 abbrev pub Lettered : Formula → Type 0
-Lettered (letter k) = k < LETTERS
-Lettered (neg x) = Lettered x
-Lettered (join b x y) = Lettered x × Lettered y
+Lettered = LetteredUnder (LIMITS .letters)
 
 -- within the limits
-pub record Within (S : Sequent) : Type 0 where
-  pub lefts : length (S .on-left) ≤ FORMULAS
-  pub rights : length (S .on-right) ≤ FORMULAS
-  pub connectives : c S ≤ CONNECTIVES
-  pub letters-left : Each Lettered (S .on-left)
-  pub letters-right : Each Lettered (S .on-right)
+abbrev pub Within : Sequent → Type 0
+Within = WithinUnder LIMITS

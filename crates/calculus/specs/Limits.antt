@@ -1,5 +1,5 @@
 -- The limits of document 01 and the numbers of its last table, with those of document 02's requests, each under one name.
-use Prim.Native.Nat.{ℕ}
+use Prim.Native.Nat.{ℕ, _≤_}
 
 -- the bytes of a question
 abbrev pub LONGEST : ℕ
@@ -15,7 +15,7 @@ CONNECTIVES = 48
 
 -- the letters ("lamps"), from 0, and the bits of a state
 abbrev pub LETTERS : ℕ
-LETTERS = 32
+LETTERS = 64
 
 -- the different letters of a question whose refuting states are listed
 abbrev pub VARIED : ℕ
@@ -24,6 +24,32 @@ VARIED = 16
 -- the formulas of a running sequent
 abbrev pub ROOM : ℕ
 ROOM = 80
+
+-- ---- any limits
+
+-- what a question has at most
+pub record Limits : Type 0 where
+  pub longest : ℕ
+  pub formulas : ℕ
+  pub connectives : ℕ
+  pub letters : ℕ
+
+abbrev pub LIMITS : Limits
+LIMITS = record { longest = LONGEST; formulas = FORMULAS; connectives = CONNECTIVES; letters = LETTERS }
+
+-- the letters before document 02's request d, and the limits with them
+abbrev pub LETTERS-BEFORE : ℕ
+LETTERS-BEFORE = 32
+
+abbrev pub LIMITS-BEFORE : Limits
+LIMITS-BEFORE = record { longest = LONGEST; formulas = FORMULAS; connectives = CONNECTIVES; letters = LETTERS-BEFORE }
+
+-- what has at most L has at most M
+pub record Wider (L M : Limits) : Type 0 where
+  pub longest : L .longest ≤ M .longest
+  pub formulas : L .formulas ≤ M .formulas
+  pub connectives : L .connectives ≤ M .connectives
+  pub letters : L .letters ≤ M .letters
 
 -- ---- refusals of a question, met in reading
 

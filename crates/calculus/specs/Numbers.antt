@@ -1,10 +1,10 @@
 -- "Numbers and places returned", row by row: what the definitions reply to a smallest example, and what document 01 prints.
 -- The numbers of document 02's requests join them.
 use mathlib.Core.List.{List, [], _∷_, _++_, map}
-use Prim.Native.Nat.{ℕ}
+use Prim.Native.Nat.{ℕ, _+_, _*_}
 use lib.ListN.{replicate}
 use Rattle.calculus.specs.declared.Kind.the-variants.{Full}
-use Rattle.calculus.specs.Syntax.{letter, Sequent}
+use Rattle.calculus.specs.Syntax.{AND, letter, join, Sequent}
 use Rattle.calculus.specs.Bytes.{encodeSequent}
 use Rattle.calculus.specs.States.{from}
 use Rattle.calculus.specs.Reply.{Reply, verdictReply, decideReply, derive, checkReply, listStates}
@@ -41,6 +41,14 @@ lettered = 0x10 ∷ 0x01 ∷ 0x01 ∷ 0x00 ∷ 0x20 ∷ 0x00 ∷ []
 abbrev seventeen : Sequent
 seventeen = record { on-left = map letter (from 0 16); on-right = letter 16 ∷ [] }
 
+-- each letter once: two in each of 16 formulas a side
+abbrev all : Sequent
+all =
+    record {
+      on-left = map (λ k. join AND (letter (4 * k)) (letter (4 * k + 1))) (from 0 16);
+      on-right = map (λ k. join AND (letter (4 * k + 2)) (letter (4 * k + 3))) (from 0 16);
+    }
+
 abbrev pub numbers : List Row
 numbers =
     -- place 212: 1 TOO LONG, the question has more than 212 bytes
@@ -51,8 +59,10 @@ numbers =
     ∷ row (read (0x10 ∷ 0x01 ∷ 0x07 ∷ [])) 3 (2 ∷ [])
     -- the operand's place: 4 MANY FORMULAS, a side's count is over 16
     ∷ row (read (0x10 ∷ 17 ∷ [])) 4 (1 ∷ [])
-    -- the operand's place: 5 NO SUCH LAMP, a lamp number over 31
-    ∷ row (read (0x10 ∷ 0x01 ∷ 0x01 ∷ 32 ∷ [])) 5 (3 ∷ [])
+    -- the operand's place: 5 NO SUCH LAMP, a lamp number over 63 (document 02, d)
+    ∷ row (read (0x10 ∷ 0x01 ∷ 0x01 ∷ 64 ∷ [])) 5 (3 ∷ [])
+    -- lamp 63 is read, and its state has bit 63
+    ∷ row (read (0x10 ∷ 0x01 ∷ 0x01 ∷ 63 ∷ 0x20 ∷ 0x00 ∷ [])) 0 (9223372036854775808 ∷ 0 ∷ 0 ∷ [])
     -- the command's place: 6 MANY CONNECTIVES, the 49th connective
     ∷ row (read (0x10 ∷ 0x01 ∷ replicate 49 0x02)) 6 (50 ∷ [])
     -- first such byte: 7 LEFT OVER, bytes follow the last formula
@@ -69,6 +79,8 @@ numbers =
     ∷ row (listed empty) 11 (1 ∷ [])
     -- that number: 12 MANY LAMPS, more than 16 different lamps occur (document 02, a)
     ∷ row (listed (encodeSequent seventeen)) 12 (17 ∷ [])
+    -- up to 64 of them (document 02, d)
+    ∷ row (listed (encodeSequent all)) 12 (64 ∷ [])
     -- command's place: 20, fewer than two bytes left while a sequent waits
     ∷ row (checkReply theorem (0x41 ∷ [])) 20 (0 ∷ [])
     -- for 42 fewer than three (document 02, c)

@@ -9,7 +9,7 @@ use Rattle.calculus.specs.declared.Side.the-variants.{Left, Right}
 use Rattle.calculus.specs.declared.Expected.{Expected}
 use Rattle.calculus.specs.declared.Expected.the-variants.{Head, Count, Formula, Operand, End}
 use Rattle.calculus.specs.Fold.{choose}
-use Rattle.calculus.specs.Limits.{LONGEST, FORMULAS, CONNECTIVES, LETTERS, TOO-LONG, CUT, WRONG-COMMAND, MANY-FORMULAS, NO-SUCH-LETTER, MANY-CONNECTIVES, LEFT-OVER}
+use Rattle.calculus.specs.Limits.{Limits, LIMITS, TOO-LONG, CUT, WRONG-COMMAND, MANY-FORMULAS, NO-SUCH-LETTER, MANY-CONNECTIVES, LEFT-OVER}
 use Rattle.calculus.specs.Syntax.{NOT, two}
 use Rattle.calculus.specs.Bytes.{Command, SIDE, LETTER, CONNECTIVE, code, command}
 
@@ -24,21 +24,21 @@ after s (suc n) = Formula s n
 after Left zero = Head Right
 after Right zero = End
 
--- a formula's command, with n more formulas of side s due after it and c connectives before it
-abbrev pub begin : Option Command → Side → ℕ → ℕ → Onward
-begin none s n c = refuse WRONG-COMMAND
-begin (some (SIDE t)) s n c = refuse WRONG-COMMAND
-begin (some LETTER) s n c = onward (Operand s n) c
-begin (some (CONNECTIVE NOT)) s n c = choose (ltb c CONNECTIVES) (onward (Formula s n) (suc c)) (refuse MANY-CONNECTIVES)
-begin (some (CONNECTIVE (two b))) s n c = choose (ltb c CONNECTIVES) (onward (Formula s (suc n)) (suc c)) (refuse MANY-CONNECTIVES)
+-- a formula's command under limits L, with n more formulas of side s due after it and c connectives before it
+abbrev pub beginUnder : Limits → Option Command → Side → ℕ → ℕ → Onward
+beginUnder L none s n c = refuse WRONG-COMMAND
+beginUnder L (some (SIDE t)) s n c = refuse WRONG-COMMAND
+beginUnder L (some LETTER) s n c = onward (Operand s n) c
+beginUnder L (some (CONNECTIVE NOT)) s n c = choose (ltb c (L .connectives)) (onward (Formula s n) (suc c)) (refuse MANY-CONNECTIVES)
+beginUnder L (some (CONNECTIVE (two b))) s n c = choose (ltb c (L .connectives)) (onward (Formula s (suc n)) (suc c)) (refuse MANY-CONNECTIVES)
 
 -- the byte b where e is expected
-abbrev pub advance : Expected → ℕ → ℕ → Onward
-advance (Head s) c b = choose (eqb b (code (SIDE s))) (onward (Count s) c) (refuse WRONG-COMMAND)
-advance (Count s) c b = choose (leb b FORMULAS) (onward (after s b) c) (refuse MANY-FORMULAS)
-advance (Formula s n) c b = begin (command b) s n c
-advance (Operand s n) c b = choose (ltb b LETTERS) (onward (after s n) c) (refuse NO-SUCH-LETTER)
-advance End c b = refuse LEFT-OVER
+abbrev pub advanceUnder : Limits → Expected → ℕ → ℕ → Onward
+advanceUnder L (Head s) c b = choose (eqb b (code (SIDE s))) (onward (Count s) c) (refuse WRONG-COMMAND)
+advanceUnder L (Count s) c b = choose (leb b (L .formulas)) (onward (after s b) c) (refuse MANY-FORMULAS)
+advanceUnder L (Formula s n) c b = beginUnder L (command b) s n c
+advanceUnder L (Operand s n) c b = choose (ltb b (L .letters)) (onward (after s n) c) (refuse NO-SUCH-LETTER)
+advanceUnder L End c b = refuse LEFT-OVER
 
 pub data Reading : Type 0 where
   accepted : Reading
@@ -57,10 +57,24 @@ goOn (refuse n) at r = refused n at
 goOn (onward e c) at r = r e c
 
 -- "reading from the first byte on; the earliest decides": each number comes with the place of the byte at hand, or the length
-abbrev pub read : List ℕ → Expected → ℕ → ℕ → Reading
-read [] e c at = ended e at
-read (b ∷ bs) e c at = goOn (advance e c b) at (λ e′ c′. read bs e′ c′ (suc at))
+abbrev pub readUnder : Limits → List ℕ → Expected → ℕ → ℕ → Reading
+readUnder L [] e c at = ended e at
+readUnder L (b ∷ bs) e c at = goOn (advanceUnder L e c b) at (λ e′ c′. readUnder L bs e′ c′ (suc at))
 
 -- "1 comes before all"
+abbrev pub readingUnder : Limits → List ℕ → Reading
+readingUnder L q = choose (ltb (L .longest) (length q)) (refused TOO-LONG (L .longest)) (readUnder L q (Head Left) 0 0)
+
+-- ---- under document 01's limits, as the requests have them
+
+abbrev pub begin : Option Command → Side → ℕ → ℕ → Onward
+begin = beginUnder LIMITS
+
+abbrev pub advance : Expected → ℕ → ℕ → Onward
+advance = advanceUnder LIMITS
+
+abbrev pub read : List ℕ → Expected → ℕ → ℕ → Reading
+read = readUnder LIMITS
+
 abbrev pub reading : List ℕ → Reading
-reading q = choose (ltb LONGEST (length q)) (refused TOO-LONG LONGEST) (read q (Head Left) 0 0)
+reading = readingUnder LIMITS

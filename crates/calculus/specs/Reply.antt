@@ -1,8 +1,9 @@
--- "Numbers and places returned": what each call replies for each input.
+-- "Numbers and places returned": what each call replies for each input, under any limits L and under those of document 01.
+use mathlib.Core.Path.{_≡_}
 use mathlib.Core.Bool.{Bool, true, false}
 use mathlib.Core.Option.{Option, none, some}
 use mathlib.Core.List.{List, [], _∷_, _++_}
-use Prim.Native.Nat.{ℕ}
+use Prim.Native.Nat.{ℕ, _^_, _<_}
 use lib.Dec.{ltb}
 use lib.ListN.{length, drop, getElem?}
 use Rattle.calculus.specs.declared.Side.{Side}
@@ -10,15 +11,15 @@ use Rattle.calculus.specs.declared.Kind.{Kind}
 use Rattle.calculus.specs.declared.Kind.the-variants.{Theorem, Refuted, Spent, Full}
 use Rattle.calculus.specs.declared.Part.{Part}
 use Rattle.calculus.specs.declared.Verdict.{Verdict}
-use Rattle.calculus.specs.Fold.{choose}
-use Rattle.calculus.specs.Limits.{VARIED, FULL, SPENT, NOT-PROVED, NO-SPACE, MANY-LETTERS}
+use Rattle.calculus.specs.Fold.{Each, choose}
+use Rattle.calculus.specs.Limits.{Limits, LIMITS, VARIED, FULL, SPENT, NOT-PROVED, NO-SPACE, MANY-LETTERS}
 use Rattle.calculus.specs.Syntax.{Formula, Sequent, on-side, c}
 use Rattle.calculus.specs.Bytes.{encode, bytes, question, startOf}
-use Rattle.calculus.specs.Reading.{Reading, accepted, refused, reading}
+use Rattle.calculus.specs.Reading.{Reading, accepted, refused, readingUnder}
 use Rattle.calculus.specs.Tree.{verdict}
 use Rattle.calculus.specs.Width.{W}
 use Rattle.calculus.specs.Derivation.{derivation, Checked, passes, faulty, checking}
-use Rattle.calculus.specs.States.{lettersIn, refuting}
+use Rattle.calculus.specs.States.{lettersUnder, refutingOver}
 
 -- the table's number, 0 where there is none, and what is returned beside it
 pub record Reply : Type 0 where
@@ -38,15 +39,21 @@ verdictReply (Refuted σ) r k = record { number = 0; values = σ ∷ r ∷ k ∷
 verdictReply Spent r k = record { number = SPENT; values = r ∷ k ∷ [] }
 verdictReply Full r k = record { number = FULL; values = r ∷ k ∷ [] }
 
-abbrev pub decideReply : List ℕ → ℕ → Reply
-decideReply q b =
+abbrev pub decideUnder : Limits → List ℕ → ℕ → Reply
+decideUnder L q b =
     let v : Verdict = verdict b (question q) in
-    ifRead (reading q) (verdictReply (v .kind) (v .reductions) (v .closings))
+    ifRead (readingUnder L q) (verdictReply (v .kind) (v .reductions) (v .closings))
+
+abbrev pub decideReply : List ℕ → ℕ → Reply
+decideReply = decideUnder LIMITS
 
 -- ---- "the width call answers W and c"
 
+abbrev pub widthUnder : Limits → List ℕ → Reply
+widthUnder L q = ifRead (readingUnder L q) (record { number = 0; values = W (question q) ∷ c (question q) ∷ [] })
+
 abbrev pub widthReply : List ℕ → Reply
-widthReply q = ifRead (reading q) (record { number = 0; values = W (question q) ∷ c (question q) ∷ [] })
+widthReply = widthUnder LIMITS
 
 -- ---- handing out a formula: a part of the question, empty "if the question is refused or has no such place"
 
@@ -58,8 +65,11 @@ abbrev pub partIf : Reading → Side → ℕ → Sequent → Part
 partIf accepted s i S = partOf s i S (getElem? (on-side s S) i)
 partIf (refused n at) s i S = record { start = 0; count = 0 }
 
+abbrev pub formulaUnder : Limits → List ℕ → Side → ℕ → Part
+formulaUnder L q s i = partIf (readingUnder L q) s i (question q)
+
 abbrev pub formulaPart : List ℕ → Side → ℕ → Part
-formulaPart q s i = partIf (reading q) s i (question q)
+formulaPart = formulaUnder LIMITS
 
 -- "that formula's own bytes"
 abbrev pub ownBytes : Reading → Option Formula → List ℕ
@@ -68,7 +78,7 @@ ownBytes accepted (some x) = encode x
 ownBytes (refused n at) o = []
 
 abbrev pub formulaBytes : List ℕ → Side → ℕ → List ℕ
-formulaBytes q s i = ownBytes (reading q) (getElem? (on-side s (question q)) i)
+formulaBytes q s i = ownBytes (readingUnder LIMITS q) (getElem? (on-side s (question q)) i)
 
 -- ---- a lent buffer
 
@@ -100,10 +110,13 @@ writeOut (Refuted σ) r k ds old = unwritten NOT-PROVED (σ ∷ r ∷ k ∷ []) 
 writeOut Spent r k ds old = record { reply = verdictReply Spent r k; buffer = old }
 writeOut Full r k ds old = record { reply = verdictReply Full r k; buffer = old }
 
-abbrev pub derive : List ℕ → ℕ → List ℕ → Written
-derive q b old =
+abbrev pub deriveUnder : Limits → List ℕ → ℕ → List ℕ → Written
+deriveUnder L q b old =
     let v : Verdict = verdict b (question q) in
-    ifReadOut (reading q) old (writeOut (v .kind) (v .reductions) (v .closings) (derivation (question q)) old)
+    ifReadOut (readingUnder L q) old (writeOut (v .kind) (v .reductions) (v .closings) (derivation (question q)) old)
+
+abbrev pub derive : List ℕ → ℕ → List ℕ → Written
+derive = deriveUnder LIMITS
 
 -- ---- checking: "reads the question first"; "answers only that the derivation passes"
 
@@ -111,14 +124,38 @@ abbrev pub checkedReply : Checked → Reply
 checkedReply passes = record { number = 0; values = [] }
 checkedReply (faulty n at) = record { number = n; values = at ∷ [] }
 
+abbrev pub checkUnder : Limits → List ℕ → List ℕ → Reply
+checkUnder L q ds = ifRead (readingUnder L q) (checkedReply (checking (question q) ds))
+
 abbrev pub checkReply : List ℕ → List ℕ → Reply
-checkReply q ds = ifRead (reading q) (checkedReply (checking (question q) ds))
+checkReply = checkUnder LIMITS
 
 -- ---- listing the refuting states: 12 with the number of different letters, 11 with that of the states "comes after 12"
 
-abbrev pub listOut : Bool → Sequent → List ℕ → Written
-listOut true S old = unwritten MANY-LETTERS (length (lettersIn S) ∷ []) old
-listOut false S old = fillOut (refuting S) [] old
+-- ks are the letters of S
+abbrev pub listOut : Bool → List ℕ → Sequent → List ℕ → Written
+listOut true ks S old = unwritten MANY-LETTERS (length ks ∷ []) old
+listOut false ks S old = fillOut (refutingOver ks S) [] old
+
+abbrev pub listUnder : Limits → List ℕ → List ℕ → Written
+listUnder L q old =
+    let ks : List ℕ = lettersUnder (L .letters) (question q) in
+    ifReadOut (readingUnder L q) old (listOut (ltb VARIED (length ks)) ks (question q) old)
 
 abbrev pub listStates : List ℕ → List ℕ → Written
-listStates q old = ifReadOut (reading q) old (listOut (ltb VARIED (length (lettersIn (question q)))) (question q) old)
+listStates = listUnder LIMITS
+
+-- ---- wider limits
+
+-- "questions that were accepted have the same verdict and counts" (document 02, d): what each call answers under M is what it
+-- answered under L, for every budget, and each state is a number of as many bits as L has letters
+pub record Kept (L M : Limits) (q : List ℕ) : Type 0 where
+  pub reads : readingUnder M q ≡ accepted
+  pub decides : (b : ℕ) → decideUnder M q b ≡ decideUnder L q b
+  pub widths : widthUnder M q ≡ widthUnder L q
+  pub hands-out : (s : Side) (i : ℕ) → formulaUnder M q s i ≡ formulaUnder L q s i
+  pub derives : (b : ℕ) (old : List ℕ) → deriveUnder M q b old ≡ deriveUnder L q b old
+  pub checks : (ds : List ℕ) → checkUnder M q ds ≡ checkUnder L q ds
+  pub lists : (old : List ℕ) → listUnder M q old ≡ listUnder L q old
+  pub state : (b σ : ℕ) → verdict b (question q) .kind ≡ Refuted σ → σ < 2 ^ L .letters
+  pub states : Each (λ σ. σ < 2 ^ L .letters) (refutingOver (lettersUnder (M .letters) (question q)) (question q))

@@ -34,7 +34,7 @@ pub enum Expected {
 // How a run ends. A refuted question comes with its state.
 pub enum Kind {
     Theorem,
-    Refuted(u32),
+    Refuted(u64),
     Spent,
     Full,
 }

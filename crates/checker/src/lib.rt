@@ -118,7 +118,7 @@ fn order_of(b: u8) -> Order
 }
 
 // Whether a letter is among those of a mask.
-fn in_mask(mask: u32, letter: u8) -> bool
+fn in_mask(mask: u64, letter: u8) -> bool
     ensures { λ r. ⌜ r ≡ bit letter mask ⌝ }
 {
     if LETTERS <= letter {

@@ -29,7 +29,7 @@ fn unproved(v: Verdict) {
         Kind::Full => print::write_line(b"full 8", &counts),
         Kind::Spent => print::write_line(b"spent 9", &counts),
         Kind::Refuted(state) => {
-            let numbers = [state as u64, v.reductions, v.closings];
+            let numbers = [state, v.reductions, v.closings];
             print::write_line(b"not proved 10", &numbers);
         }
     }
@@ -164,6 +164,16 @@ fn unwritten() {
     lend(b"\x10\x01\x01\x00\x20\x01\x01\x00", 0, &mut buffer);
 }
 
+// Letter 63 closes, letter 31 does not, and a state has bit 63.
+fn highest_letter() {
+    let mut buffer = [0u8; 4096];
+    let q = b"\x10\x01\x01\x3f\x20\x01\x01\x3f";
+    derive(q, &mut buffer);
+    check(q, b"\x41\x1f");
+    let mut four = [0xeeu8; 4];
+    lend(b"\x10\x01\x01\x3f\x20\x00", BUDGET, &mut four);
+}
+
 fn main() {
     cases();
     other_orders();
@@ -171,4 +181,5 @@ fn main() {
     pairs();
     second_premise();
     unwritten();
+    highest_letter();
 }

@@ -79,7 +79,7 @@ pub fn check(q: &[u8], derivation: &[u8]) -> checker::Checking
 }
 
 // Lists every state that makes a question false.
-pub fn refuting_states(q: &[u8], list: &mut [u32]) -> states::Listing
+pub fn refuting_states(q: &[u8], list: &mut [u64]) -> states::Listing
     ensures reply { λ r. ⌜ listingOf r ≡ listStates (now (q .entry)) (now (list .entry)) .reply ⌝ }
     ensures written { λ r. ⌜ now (list .exit) ≡ listStates (now (q .entry)) (now (list .entry)) .buffer ⌝ }
     ensures all { λ r. ⌜ ((n : ℕ) → r ≡ Listed n → Lists (now (q .entry)) (take n (now (list .exit)))) ⌝ }
@@ -145,7 +145,7 @@ fn unproved_words(v: Verdict) -> Words
     match kind {
         Kind::Refuted(state) => Words {
             number: NOT_PROVED,
-            first: state as u64,
+            first: state,
             second: v.reductions,
             third: v.closings,
         },
@@ -238,7 +238,7 @@ fn kind_words(kind: Kind) -> Decided
         Kind::Refuted(state) => Decided {
             number: 0,
             refuted: 1,
-            state: state as u64,
+            state: state,
         },
         Kind::Spent => Decided {
             number: SPENT,
@@ -340,7 +340,7 @@ pub extern "C" fn gekunday_check(q: &[u8], derivation: &[u8], out: &mut [u64; 1]
 
 // Lists every state that makes a question false.
 #[no_mangle]
-pub extern "C" fn gekunday_states(q: &[u8], list: &mut [u32], out: &mut [u64; 1]) -> u32
+pub extern "C" fn gekunday_states(q: &[u8], list: &mut [u64], out: &mut [u64; 1]) -> u32
     ensures number { λ r. ⌜ r ≡ listStates (now (q .entry)) (now (list .entry)) .reply .number ⌝ }
     ensures words { λ r. ⌜ now (out .exit) ≡ filled 1 (listStates (now (q .entry)) (now (list .entry)) .reply .values) ⌝ }
     ensures written { λ r. ⌜ now (list .exit) ≡ listStates (now (q .entry)) (now (list .entry)) .buffer ⌝ }

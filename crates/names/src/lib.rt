@@ -28,7 +28,7 @@ pub struct Named {
 // far and the number of the next node.
 pub struct Loaded {
     pub places: usize,
-    pub mask: u32,
+    pub mask: u64,
     pub set: u64,
     pub end: usize,
     pub next: usize,

@@ -37,7 +37,7 @@ pub enum Finding {
     // A compound stands on both sides: its left place and its right place.
     Paired(usize, usize),
     // No connective is left: the state.
-    Open(u32),
+    Open(u64),
     Full,
     Spent,
     // How the first compound reduces.
@@ -132,7 +132,7 @@ pub fn step(nodes: &[u32; 48], items: &[u8; 80], s: Running, from: usize, left: 
 {
     let shared = s.leftmask & s.rightmask;
     if shared != 0 {
-        return Finding::Closed(u32::trailing_zeros(shared));
+        return Finding::Closed(u64::trailing_zeros(shared));
     }
     let twins = s.twins(items);
     match twins {
@@ -175,6 +175,18 @@ fn run(nodes: &[u32; 48], items: &[u8; 80], s: Running, from: usize, left: u64) 
     }
 }
 
+// The same kind, put together anew: a copy would read it whole right after it was stored in parts, which takes longer.
+fn same(kind: Kind) -> Kind
+    ensures { λ r. ⌜ r ≡ kind ⌝ }
+{
+    match kind {
+        Kind::Theorem => Kind::Theorem,
+        Kind::Refuted(state) => Kind::Refuted(state),
+        Kind::Spent => Kind::Spent,
+        Kind::Full => Kind::Full,
+    }
+}
+
 // A premise of the reduction, made in a list that is lent for it, and run.
 fn run_premise(
     nodes: &[u32; 48],
@@ -200,7 +212,7 @@ fn run_premise(
     let o = run(nodes, next, t, s.start(side, r.at), left);
     let kind = o.kind;
     Reduced {
-        kind: kind,
+        kind: same(kind),
         unspent: o.unspent,
         closings: o.closings,
         pairings: o.pairings,

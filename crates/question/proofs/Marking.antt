@@ -33,7 +33,7 @@ pub record Marking (q : List ℕ) (all : List Formula) (first set i d : ℕ) : T
 
 pub marking-first : (q : List ℕ) (set at n : ℕ) → n ≤ length (formulas (drop at q)) → Each Lettered (take n (formulas (drop at q)))
     → Marking q (take n (formulas (drop at q))) set set at n
-marking-first q set at n h k = record { due = h; below = λ j e. occurs-all j (take n (formulas (drop at q))) k e; same = λ j. refl }
+marking-first q set at n h k = record { due = h; below = λ j e. occurs-all LETTERS j (take n (formulas (drop at q))) k e; same = λ j. refl }
 
 module _ (q : List ℕ) (all : List Formula) (first set i d : ℕ) (a : Marking q all first set i d) where
   pub marking-last : d ≤ 0 → Marks all first set

@@ -24,7 +24,7 @@ pub const LONGEST_QUESTION: usize = 212;
 
 pub const MOST_FORMULAS: u8 = 16;
 
-pub const LETTERS: u8 = 32;
+pub const LETTERS: u8 = 64;
 
 pub const MOST_CONNECTIVES: u8 = 48;
 

@@ -48,12 +48,12 @@ fn many_formulas() {
     read(&q);
 }
 
-// 5: letter 32, on the left and on the right; 31 is read.
+// 5: letter 64, on the left and on the right; 63 is read.
 fn no_such_letter() {
-    read(b"\x10\x01\x01\x20");
+    read(b"\x10\x01\x01\x40");
     read(b"\x10\x01\x01\xff");
-    read(b"\x10\x00\x20\x01\x01\x20");
-    read(b"\x10\x00\x20\x01\x01\x1f");
+    read(b"\x10\x00\x20\x01\x01\x40");
+    read(b"\x10\x00\x20\x01\x01\x3f");
 }
 
 // 6: NOT and AND 49 times.

@@ -24,8 +24,8 @@ ghost use Rattle.sequent.specs.Compounds.{firstIn, Clear, Found, Stands,
 pub struct Running {
     pub lefts: usize,
     pub rights: usize,
-    pub leftmask: u32,
-    pub rightmask: u32,
+    pub leftmask: u64,
+    pub rightmask: u64,
     pub leftset: u64,
     pub rightset: u64,
 }
@@ -222,11 +222,11 @@ impl Pass {
 // ---- the letters of a premise's parts
 
 // The bit of a letter; none for a compound.
-pub fn letter_bit(name: u8) -> u32
+pub fn letter_bit(name: u8) -> u64
     ensures { λ r. ⌜ r ≡ bitOf name ⌝ }
 {
     if name < LETTERS {
-        return 1u32 << name;
+        return 1u64 << name;
     }
     0
 }
@@ -242,7 +242,7 @@ pub fn compound_bit(name: u8) -> u64
 }
 
 // The bit of a letter, where it is wanted.
-fn mark(wanted: bool, name: u8) -> u32
+fn mark(wanted: bool, name: u8) -> u64
     ensures { λ r. ⌜ r ≡ lettersOf (keep wanted name) ⌝ }
 {
     if wanted {
@@ -252,7 +252,7 @@ fn mark(wanted: bool, name: u8) -> u32
 }
 
 // The letters among the parts that a premise puts on a side.
-fn marks(side: Side, p: Placing, f: u8, g: u8) -> u32
+fn marks(side: Side, p: Placing, f: u8, g: u8) -> u64
     ensures { λ r. ⌜ r ≡ lettersOf (partsOn side p f g) ⌝ }
 {
     let s = side_code(side);

@@ -1,5 +1,5 @@
-// The refuting states of document 01's cases 1 to 3, 6, 8 and 9, the smallest examples of numbers 11 and 12, and letters that
-// are not next to each other.
+// The refuting states of document 01's cases 1 to 3, 6, 8 and 9, the smallest examples of numbers 11 and 12, letters that are
+// not next to each other, and letters 32 and 63.
 ghost use Prim.Native.Nat.{_≤_};
 ghost use lib.ListN.{length};
 use states::Listing;
@@ -23,25 +23,15 @@ fn answer(a: Listing) {
     }
 }
 
-fn long(n: u32) -> u64 {
-    n as u64
-}
-
 // One line: what a slice of five places or fewer holds.
-fn show(list: &[u32])
+fn show(list: &[u64])
     requires { ⌜ length (now list) ≤ 5 ⌝ }
 {
-    let mut numbers = [0u64; 5];
-    let mut i = 0;
-    while i < list.len() {
-        numbers[i] = long(list[i]);
-        i += 1;
-    }
-    print::write_line(b"slice", &numbers[..i]);
+    print::write_line(b"slice", list);
 }
 
 // What the call answers, and what the lent slice holds after it.
-fn lend(q: &[u8], list: &mut [u32])
+fn lend(q: &[u8], list: &mut [u64])
     requires { ⌜ length (now list) ≤ 5 ⌝ }
 {
     answer(states::refuting_states(q, list));
@@ -50,7 +40,7 @@ fn lend(q: &[u8], list: &mut [u32])
 
 // Five places that hold 99.
 fn list(q: &[u8]) {
-    let mut places = [99u32; 5];
+    let mut places = [99u64; 5];
     lend(q, &mut places);
 }
 
@@ -69,11 +59,11 @@ fn cases() {
 // 11: three states, letters 1 and 4 of OR on the left, beside slices of 0, 2 and 3 places.
 fn no_space() {
     let q = b"\x10\x01\x04\x01\x01\x01\x04\x20\x00";
-    let mut none: [u32; 0] = [];
+    let mut none: [u64; 0] = [];
     lend(q, &mut none);
-    let mut two = [99u32; 2];
+    let mut two = [99u64; 2];
     lend(q, &mut two);
-    let mut three = [99u32; 3];
+    let mut three = [99u64; 3];
     lend(q, &mut three);
     list(q);
 }
@@ -81,18 +71,24 @@ fn no_space() {
 // 12: 17 letters, which comes before 11; with 16 there is one state.
 fn many_letters() {
     let q =
-        b"\x10\x10\x01\x00\x01\x01\x01\x02\x01\x03\x01\x04\x01\x05\x01\x06\x01\x07\x01\x08\x01\x09\x01\x0a\x01\x0b\x01\x0c\x01\x0d\x01\x0e\x01\x1f\x20\x01\x01\x10";
-    let mut none: [u32; 0] = [];
+        b"\x10\x10\x01\x00\x01\x01\x01\x02\x01\x03\x01\x04\x01\x05\x01\x06\x01\x07\x01\x08\x01\x09\x01\x0a\x01\x0b\x01\x0c\x01\x0d\x01\x0e\x01\x3f\x20\x01\x01\x10";
+    let mut none: [u64; 0] = [];
     lend(q, &mut none);
     list(q);
     list(
-        b"\x10\x10\x01\x00\x01\x01\x01\x02\x01\x03\x01\x04\x01\x05\x01\x06\x01\x07\x01\x08\x01\x09\x01\x0a\x01\x0b\x01\x0c\x01\x0d\x01\x0e\x01\x1f\x20\x00",
+        b"\x10\x10\x01\x00\x01\x01\x01\x02\x01\x03\x01\x04\x01\x05\x01\x06\x01\x07\x01\x08\x01\x09\x01\x0a\x01\x0b\x01\x0c\x01\x0d\x01\x0e\x01\x3f\x20\x00",
     );
+}
+
+// OR of letters 32 and 63 on the left.
+fn high_letters() {
+    list(b"\x10\x01\x04\x01\x20\x01\x3f\x20\x00");
 }
 
 fn main() {
     cases();
     no_space();
     many_letters();
+    high_letters();
     list(b"\x10\x01\x01");
 }

@@ -8,9 +8,6 @@ enum-told c = search needs
 enum-known-kind : tie.Need-enum-known-kind
 enum-known-kind c = search needs
 
-cast-t4 : tie.Need-cast-t4
-cast-t4 c = search needs
-
 enum-told-2 : tie.Need-enum-told-2
 enum-told-2 c = search needs
 
@@ -35,7 +32,6 @@ kind-words-spec =
     (tie.spec
     enum-told
     enum-known-kind
-    cast-t4
     enum-told-2
     enum-told-3
     returns

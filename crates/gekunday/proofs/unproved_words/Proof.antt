@@ -6,9 +6,6 @@ use Rattle.gekunday.proofs.unproved_words.Tie as tie
 enum-known-kind : tie.Need-enum-known-kind
 enum-known-kind c = search needs
 
-cast-t5 : tie.Need-cast-t5
-cast-t5 c = search needs
-
 enum-told : tie.Need-enum-told
 enum-told c = search needs
 
@@ -44,7 +41,6 @@ unproved-words-spec =
     tie.close
     (tie.spec
     enum-known-kind
-    cast-t5
     enum-told
     counts-requires
     enum-told-2

@@ -8,6 +8,7 @@ use borrow.Author.Needs.{needs}
 use borrow.Fn.Kinds.{In}
 use borrow.Fn.PlainCycle.{Measures, is, falls, and}
 use types.Run.{miss}
+use Rattle.calculus.specs.declared.Kind.{Kind}
 use Rattle.calculus.specs.declared.Outcome.{Outcome}
 use Rattle.calculus.specs.Limits.{CONNECTIVES, ROOM}
 use Rattle.calculus.specs.Syntax.{c as connectivesOf}
@@ -16,6 +17,7 @@ use Rattle.sequent.specs.declared.Rule.{Rule}
 use Rattle.sequent.specs.View.{view, sequentOf}
 use Rattle.sequent.specs.Compounds.{compoundAt, ruleFor, premiseBy, Makes}
 use Rattle.sequent.proofs.Goods.{premises-made, few, command-made, makes-next, premise-asks, made-is, made-good, made-stores, made-clear}
+use Rattle.prover.specs.Runs.{ended}
 use Rattle.prover.proofs.Runs.{answered, closings-small, pairings-small, Ahead, ahead-starts, ahead-goes, ahead-stops, ahead-ends}
 use Rattle.prover.proofs.reduce.Reads as reduce
 use Rattle.prover.proofs.reduce.Kinds as reduce-kinds
@@ -27,6 +29,7 @@ use Rattle.prover.proofs.run_premise.Reads as run-premise
 use Rattle.prover.proofs.run_premise.Kinds as run-premise-kinds
 use Rattle.prover.proofs.+reduce+run+run_premise.Lts-run_premise as run-premise-lts
 use Rattle.prover.proofs.ended.Reads as ended-reads
+use Rattle.prover.proofs.same.Reads as same-reads
 use Rattle.prover.proofs.step.Reads as step-reads
 use Rattle.sequent.proofs.Running.premise.Reads as premise-reads
 use Rattle.sequent.proofs.Running.start.Reads as start-reads
@@ -211,6 +214,8 @@ pub +reduce+run+run-premise-spec : {M : Type 1} → statement M
       start-reads.Learnt,
       run-below t,
       run.Post,
+      same-reads.Asked,
+      same-reads.Learnt,
     )
     (run-premise-at t)
     run-premise.Post
@@ -234,14 +239,16 @@ pub +reduce+run+run-premise-spec : {M : Type 1} → statement M
         omega (arith, e, h .0 .fewer, h .2),
       ),
     ))
+    (λ c. search needs)
     (λ c.
-    let s = c .before .before .before .before .before .before in
+    let s = c .before .before .before .before .before .before .before in
     let a = s .args in
     let h = s .pre .1 in
-    let m = c .before .before .before .before .premise in
+    let m = c .before .before .before .before .before .premise in
+    let o = c .before .run in
     let e = made-is (a .nodes .now) (a .items .now) (a .s) (a .r) (a .p) (h .0) _ (m .last .1 .1 .0) (m .result) (m .ensures) in (
       record {
-        outcome = c .run .ensures ∙ ap (outcome (a .left)) e;
+        outcome = ap (λ (k : Kind). ended k (o .result .unspent) (o .result .closings) (o .result .pairings)) (c .same .ensures) ∙ o .ensures ∙ ap (outcome (a .left)) e;
         stores = made-stores (a .nodes .now) (a .items .now) (a .s) (a .r) (a .p) (h .0) _ (m .last .1 .1 .0) (m .result) (m .ensures);
       },
       m .ensures .full,

@@ -11,5 +11,5 @@ letter-bit-spec =
     tie.close
     (tie.spec
     (λ c. search needs)
-    (λ c. let x = c .before .args .name in rw (lt-ltb x LETTERS (c .if1 .taken)) (shifted 32 x (omega arith)))
+    (λ c. let x = c .before .args .name in rw (lt-ltb x LETTERS (c .if1 .taken)) (shifted 64 x (omega arith)))
     (λ c. rw (le-ltb (c .before .args .name) LETTERS (c .if1 .left))))
