@@ -10,7 +10,7 @@
  *
  *   10 n   the left side, n formulas follow (n from 0 to 16)
  *   20 m   the right side, m formulas follow (m from 0 to 16)
- *   01 k   the letter k (0 to 31)
+ *   01 k   the letter k (0 to 63)
  *   02     NOT, one formula follows
  *   03     AND      \
  *   04     OR        | two formulas follow
@@ -19,6 +19,12 @@
  *
  * A question is 10 with its formulas, then 20 with its formulas, and nothing more.  It has at most 48 connectives
  * (02 to 06) over both sides, so at most 212 bytes.  "P implies P", with P the letter 0: 10 00 20 01 05 01 00 01 00.
+ *
+ * STATES
+ *
+ * A state is a 64-bit number: bit k is set exactly if letter k is true in it.  A stored 32-bit state, from when letters
+ * went to 31, reads as the same number: assign the uint32_t to a uint64_t, and letters 32 to 63 are false in it.  Never
+ * take it through a signed type: where letter 31 is true, letters 32 to 63 would become true, too.
  *
  * WHAT HOLDS OF EVERY CALL
  *
@@ -60,7 +66,7 @@ extern "C" {
 #define GEKUNDAY_QUESTION_MAX 212    /* bytes of a question */
 #define GEKUNDAY_FORMULAS_MAX 16     /* formulas on one side */
 #define GEKUNDAY_CONNECTIVES_MAX 48  /* connectives over both sides */
-#define GEKUNDAY_LETTERS 32          /* letters are numbered 0 to 31 */
+#define GEKUNDAY_LETTERS 64          /* letters are numbered 0 to 63 */
 #define GEKUNDAY_VARIED_MAX 16       /* different letters that a question may have for its states to be listed */
 #define GEKUNDAY_STATES_MAX 65536    /* states in a list: a buffer of so many is never too short */
 
@@ -97,7 +103,7 @@ extern "C" {
 #define GEKUNDAY_CUT 2              /* it ends where a command or operand is due; place: its length */
 #define GEKUNDAY_WRONG_COMMAND 3    /* a byte that may not come there; place: the byte's */
 #define GEKUNDAY_MANY_FORMULAS 4    /* a side's count is over 16; place: the operand's */
-#define GEKUNDAY_NO_SUCH_LETTER 5   /* a letter over 31; place: the operand's */
+#define GEKUNDAY_NO_SUCH_LETTER 5   /* a letter over 63; place: the operand's */
 #define GEKUNDAY_MANY_CONNECTIVES 6 /* the 49th connective; place: the command's */
 #define GEKUNDAY_LEFT_OVER 7        /* bytes follow the last formula; place: the first such byte's */
 
@@ -194,7 +200,7 @@ uint32_t gekunday_check(const uint8_t *question, size_t length, const uint8_t *d
  * Under any number but 0 the whole buffer keeps its content.  A buffer of GEKUNDAY_STATES_MAX is never too short; with a
  * room of 0 the call answers how many states there are.
  */
-uint32_t gekunday_states(const uint8_t *question, size_t length, uint32_t *states, size_t room, uint64_t out[1]);
+uint32_t gekunday_states(const uint8_t *question, size_t length, uint64_t *states, size_t room, uint64_t out[1]);
 
 #ifdef __cplusplus
 }
