@@ -1,6 +1,6 @@
 //! Decides propositional sequents by Wang's method. This is a safe wrapper of the proved library `libgekunday.a`.
 //!
-//! A *question* is a sequent in bytes: a left side and a right side, each a list of formulas over the letters 0 to 31.
+//! A *question* is a sequent in bytes: a left side and a right side, each a list of formulas over the letters 0 to 63.
 //! In a state (which letters are true) it is true if some left formula is false or some right formula is true. If it is
 //! true in every state, it is a *theorem*; otherwise it is *refuted*, by a state that is handed back. All states that
 //! refute it can be listed, too.
@@ -9,12 +9,15 @@
 //! |---|---|
 //! | `10 n` | left side, `n` formulas follow (0 to 16) |
 //! | `20 m` | right side, `m` formulas follow (0 to 16) |
-//! | `01 k` | letter `k` (0 to 31) |
+//! | `01 k` | letter `k` (0 to 63) |
 //! | `02` | NOT, one formula follows |
 //! | `03`, `04`, `05`, `06` | AND, OR, IMPLIES, EQUIV, two formulas follow |
 //!
 //! A question is the left side, then the right side, and nothing more; it has at most 48 connectives, so at most 212
 //! bytes.
+//!
+//! A state is a `u64`: bit `k` is set exactly if letter `k` is true. A stored 32-bit state, from when letters went to
+//! 31, reads as the same number: `u64::from(stored)` for a `u32`.
 //!
 //! ```
 //! use gekunday::{check, decide, derive, states, width, Kind};
@@ -39,6 +42,10 @@
 //! let question = [0x10, 1, 0x04, 0x01, 0, 0x01, 1, 0x20, 1, 0x03, 0x01, 0, 0x01, 1];
 //! let mut buffer = [0; 4];
 //! assert_eq!(states(&question, &mut buffer).unwrap(), [0b01, 0b10]);
+//!
+//! // A state that was stored with 32 bits is found by its number.
+//! let stored: u32 = 0b10;
+//! assert!(states(&question, &mut buffer).unwrap().contains(&u64::from(stored)));
 //! # Ok::<(), gekunday::Refusal>(())
 //! ```
 //!
@@ -61,8 +68,8 @@ pub const QUESTION_MAX: usize = 212;
 pub const FORMULAS_MAX: usize = 16;
 /// Connectives that a question may have over both sides.
 pub const CONNECTIVES_MAX: usize = 48;
-/// Letters are numbered from 0 to 31.
-pub const LETTERS: usize = 32;
+/// Letters are numbered from 0 to 63.
+pub const LETTERS: usize = 64;
 /// Different letters that a question may have for its states to be listed.
 pub const VARIED_MAX: usize = 16;
 
@@ -88,7 +95,7 @@ pub enum Refusal {
     WrongCommand(u64),
     /// 4: a side's count is over 16. The place is the operand's.
     ManyFormulas(u64),
-    /// 5: a letter over 31. The place is the operand's.
+    /// 5: a letter over 63. The place is the operand's.
     NoSuchLetter(u64),
     /// 6: the 49th connective.
     ManyConnectives(u64),
@@ -167,7 +174,7 @@ pub enum Kind {
     Theorem,
     /// False in this state: bit `k` is set exactly if letter `k` is true. It makes each left formula true and each
     /// right formula false.
-    Refuted(u32),
+    Refuted(u64),
     /// The question takes more reductions than the budget.
     Spent,
     /// A premise would hold more than 80 formulas. Within the limits of a question this does not happen.
@@ -244,7 +251,7 @@ pub enum NotWritten {
     /// 10: the question is refuted.
     NotProved {
         /// The refuting state, as in [`Kind::Refuted`].
-        state: u32,
+        state: u64,
         /// Reductions made.
         reductions: u64,
         /// Sequents closed.
@@ -420,6 +427,11 @@ impl Error for NotListed {}
 /// assert_eq!(decide(&question, 10), Ok(Verdict { kind: Kind::Refuted(0b10), reductions: 1, closings: 1 }));
 /// assert_eq!(decide(&question, 0), Ok(Verdict { kind: Kind::Spent, reductions: 0, closings: 0 }));
 /// assert_eq!(decide(&question[..9], 10), Err(Refusal::Cut(9)));
+///
+/// // Letter 63 on the left, letter 31 on the right. There is no letter 64.
+/// let question = [0x10, 1, 0x01, 63, 0x20, 1, 0x01, 31];
+/// assert_eq!(decide(&question, 0), Ok(Verdict { kind: Kind::Refuted(1 << 63), reductions: 0, closings: 0 }));
+/// assert_eq!(decide(&[0x10, 1, 0x01, 64, 0x20, 0], 0), Err(Refusal::NoSuchLetter(3)));
 /// ```
 pub fn decide(question: &[u8], budget: u64) -> Result<Verdict, Refusal> {
     let mut out = [0; 4];
@@ -428,7 +440,7 @@ pub fn decide(question: &[u8], budget: u64) -> Result<Verdict, Refusal> {
     let [first, state, reductions, closings] = out;
     let kind = match (number, first) {
         (0, 0) => Kind::Theorem,
-        (0, _) => Kind::Refuted(state as u32),
+        (0, _) => Kind::Refuted(state),
         (8, _) => Kind::Full,
         (9, _) => Kind::Spent,
         _ => return Err(Refusal::of(number, first)),
@@ -543,7 +555,7 @@ pub fn derive<'b>(question: &[u8], budget: u64, buffer: &'b mut [u8]) -> Result<
         }
         8 => Err(NotWritten::Full { reductions: first, closings: second }),
         9 => Err(NotWritten::Spent { reductions: first, closings: second }),
-        10 => Err(NotWritten::NotProved { state: first as u32, reductions: second, closings: third }),
+        10 => Err(NotWritten::NotProved { state: first, reductions: second, closings: third }),
         11 => Err(NotWritten::NoSpace { needed: first }),
         _ => Err(NotWritten::Refused(Refusal::of(number, first))),
     }
@@ -593,11 +605,15 @@ pub fn check(question: &[u8], derivation: &[u8]) -> Result<(), NotPassed> {
 /// assert_eq!(states(&question, &mut buffer)?, [0b01, 0b10, 0b11]);
 /// assert_eq!(buffer[3..], [0xff; 2]);
 ///
+/// // The same with the letters 31 and 32.
+/// let question = [0x10, 1, 0x04, 0x01, 31, 0x01, 32, 0x20, 0];
+/// assert_eq!(states(&question, &mut buffer)?, [0x0_8000_0000, 0x1_0000_0000, 0x1_8000_0000]);
+///
 /// // P on both sides: a theorem.
 /// assert!(states(&[0x10, 1, 0x01, 0, 0x20, 1, 0x01, 0], &mut [])?.is_empty());
 /// # Ok::<(), gekunday::NotListed>(())
 /// ```
-pub fn states<'s>(question: &[u8], buffer: &'s mut [u32]) -> Result<&'s [u32], NotListed> {
+pub fn states<'s>(question: &[u8], buffer: &'s mut [u64]) -> Result<&'s [u64], NotListed> {
     let mut out = [0; 1];
     // SAFETY: the pointers and lengths are those of live slices, `buffer` is borrowed for writing, and `out` has 1
     // word.

@@ -52,5 +52,5 @@ extern "C" {
     /// # Safety
     /// `question` is good for reading `length` bytes, `states` for writing `room` numbers that share no byte with the
     /// question, `out` for writing 1 word.
-    pub fn gekunday_states(question: *const u8, length: usize, states: *mut u32, room: usize, out: *mut u64) -> u32;
+    pub fn gekunday_states(question: *const u8, length: usize, states: *mut u64, room: usize, out: *mut u64) -> u32;
 }
