@@ -1,11 +1,12 @@
-//! The questions that document 01 tries by hand (case 11 as document 02, c, has it), and the smallest example of each
-//! number.
+//! The questions that document 01 tries by hand (case 11 as document 02, c, has it, and case 12 as d has it), and the
+//! smallest example of each number.
 
 mod common;
 
 use common::calls;
 use common::examine::{examine, Seen};
 use common::prng::Prng;
+use common::LETTERS;
 
 const LARGE: u64 = 1_000_000;
 
@@ -110,9 +111,15 @@ fn case_11_and_on_both_sides() {
 
 #[test]
 fn case_12_the_limits() {
-    // Letter 31 is read, 32 gives 5.
-    refuted("10 01 01 1f 20 00", 1 << 31, 0, 0, 1);
-    refused(&hex("10 01 01 20 20 00"), 5, 3);
+    // Letter 63 is read, 64 gives 5.
+    refuted("10 01 01 3f 20 00", 1 << 63, 0, 0, 1);
+    refuted("10 00 20 01 01 3f", 0, 0, 0, 1);
+    theorem("10 01 01 3f 20 01 01 3f", 0, 1, 1, "41 3f");
+    refused(&hex("10 01 01 40 20 00"), 5, 3);
+    refused(&hex("10 00 20 01 01 40"), 5, 5);
+    // Letters 31 and 32 are read like any other.
+    refuted("10 01 01 1f 20 01 01 20", 1 << 31, 0, 0, 1);
+    refuted("10 01 01 20 20 01 01 1f", 1 << 32, 0, 0, 1);
     // 16 formulas on a side are read, 17 give 4.
     let sixteen = [1, 0].repeat(16);
     refuted(&format!("10 10 {} 20 00", "01 00 ".repeat(16)), 1, 0, 0, 1);
@@ -137,15 +144,15 @@ fn the_longest_question() {
     for (command, connective) in [(0x10, 3), (0x20, 4)] {
         longest.extend([command, 16]);
         for place in 0..16 {
-            // 24 connectives a side: one and two in turn. Left and right have no letter in common.
-            let letter = place + if command == 0x10 { 0 } else { 16 };
+            // 24 connectives a side: one and two in turn. The left has the highest letters, the right the lowest.
+            let letter = place + if command == 0x10 { LETTERS - 16 } else { 0 };
             longest.extend(vec![connective; 1 + (place as usize) % 2]);
             longest.extend([1, letter].repeat(2 + (place as usize) % 2));
         }
     }
     assert_eq!(longest.len(), 212);
     assert_eq!(calls::width(&longest), (0, [1, 48]));
-    assert_eq!(calls::decide(&longest, LARGE), (0, [1, 0xffff, 48, 0]));
+    assert_eq!(calls::decide(&longest, LARGE), (0, [1, 0xffff << 48, 48, 0]));
     everything(&longest);
     for last in [0, 1, 7, 255] {
         refused(&[&longest[..], &[last]].concat(), 1, 212);
@@ -183,9 +190,9 @@ fn smallest_refused_questions() {
         ("10 11", 4, 1),
         ("10 ff", 4, 1),
         ("10 00 20 11", 4, 3),
-        ("10 01 01 20", 5, 3),
+        ("10 01 01 40", 5, 3),
         ("10 01 01 ff", 5, 3),
-        ("10 00 20 01 01 20", 5, 5),
+        ("10 00 20 01 01 40", 5, 5),
         ("10 00 20 00 00", 7, 4),
         ("10 00 20 00 10", 7, 4),
         ("10 00 20 00 ff ff", 7, 4),
@@ -212,7 +219,7 @@ fn smallest_derivations_not_written() {
     assert_eq!(calls::derive(&equiv, 0, 0), (9, [0, 0, 0], vec![]));
     // 10: nothing follows from nothing, also without room.
     assert_eq!(calls::derive(&hex("10 00 20 00"), 0, 0), (10, [0, 0, 0], vec![]));
-    assert_eq!(calls::derive(&hex("10 01 01 1f 20 00"), 0, 9), (10, [1 << 31, 0, 0], vec![]));
+    assert_eq!(calls::derive(&hex("10 01 01 3f 20 00"), 0, 9), (10, [1 << 63, 0, 0], vec![]));
     // 9 before 10: P OR Q on the left.
     let or = hex("10 01 04 01 00 01 01 20 00");
     assert_eq!(calls::derive(&or, 0, 9), (9, [0, 0, 0], vec![]));
@@ -238,18 +245,19 @@ fn every_refuting_state() {
         ("10 01 06 01 00 01 00 20 00", &[0, 1]),
         (CASE_9, &[3]),
         // A letter on the left is true, one on the right false.
-        ("10 01 01 1f 20 00", &[1 << 31]),
-        ("10 00 20 01 01 1f", &[0]),
+        ("10 01 01 3f 20 00", &[1 << 63]),
+        ("10 00 20 01 01 3f", &[0]),
         // P OR Q on the left, and P OR R: Q does not occur there.
         ("10 01 04 01 00 01 01 20 00", &[1, 2, 3]),
         ("10 01 04 01 00 01 02 20 00", &[1, 4, 5]),
         // P OR Q on the left, P OR (R AND NOT R) on the right: R varies, though nothing depends on it.
         ("10 01 04 01 00 01 01 20 01 04 01 00 03 01 02 02 01 02", &[2, 6]),
         // Ascending as numbers, whichever letter is read first.
-        ("10 01 02 03 01 00 01 1f 20 00", &[0, 1, 1 << 31]),
-        ("10 01 02 03 01 1f 01 00 20 00", &[0, 1, 1 << 31]),
-        ("10 00 20 01 05 01 1f 01 1e", &[1 << 31]),
-        ("10 00 20 01 05 01 1e 01 1f", &[1 << 30]),
+        ("10 01 02 03 01 00 01 3f 20 00", &[0, 1, 1 << 63]),
+        ("10 01 02 03 01 3f 01 00 20 00", &[0, 1, 1 << 63]),
+        ("10 01 02 03 01 20 01 1f 20 00", &[0, 1 << 31, 1 << 32]),
+        ("10 00 20 01 05 01 3f 01 3e", &[1 << 63]),
+        ("10 00 20 01 05 01 3e 01 3f", &[1 << 62]),
     ] {
         let question = hex(question);
         let count = states.len() as u64;
@@ -286,9 +294,10 @@ fn smallest_lists_refused() {
 /// The lowest letter closes, wherever it stands.
 #[test]
 fn the_lowest_letter_closes() {
-    let question = hex("10 03 01 09 01 05 01 07 20 03 01 07 01 09 01 05");
-    assert_eq!(calls::derive(&question, 0, 2), (0, [2, 0, 1], vec![0x41, 5]));
-    everything(&question);
+    theorem("10 03 01 09 01 05 01 07 20 03 01 07 01 09 01 05", 0, 1, 1, "41 05");
+    theorem("10 03 01 3f 01 20 01 3e 20 03 01 3e 01 3f 01 20", 0, 1, 1, "41 20");
+    theorem("10 02 01 3f 01 1f 20 02 01 1f 01 3f", 0, 1, 1, "41 1f");
+    theorem("10 00 20 01 05 01 3f 01 3f", 1, 1, 1, "65 00 41 3f");
 }
 
 /// Equal formulas with a connective close where no letter does, at the lowest places.
@@ -392,6 +401,8 @@ fn smallest_derivations_that_fail() {
         (&and, "53 00 53 01", 23, 2),
         (&closed, "41 01", 24, 0),
         (&closed, "41 20", 24, 0),
+        (&closed, "41 3f", 24, 0),
+        (&closed, "41 40", 24, 0),
         (&closed, "41 ff", 24, 0),
         (&and, "41 00", 24, 0),
         (&open, "41 00", 24, 0),

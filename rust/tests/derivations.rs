@@ -6,7 +6,7 @@ mod common;
 use common::order::{self, Found};
 use common::prng::Prng;
 use common::questions::{IMPLIES, LETTER, NOT, OR};
-use common::{calls, questions, tree};
+use common::{calls, questions, tree, HIGH, LETTERS};
 
 const COMMANDS: [u8; 13] = [0, 0x41, 0x42, 0x52, 0x53, 0x54, 0x55, 0x56, 0x62, 0x63, 0x64, 0x65, 0x66];
 
@@ -112,7 +112,7 @@ fn closings_on_equal_formulas() {
 #[test]
 fn bytes_of_each_command() {
     let mut rng = Prng::new(18);
-    let (mut on_letters, mut on_equals) = (0, 0);
+    let (mut on_letters, mut on_equals, mut on_high, mut on_last) = (0, 0, 0, 0);
     for _ in 0..20_000 {
         let question = questions::repeated(&mut rng);
         let (number, [length, reductions, closings], derivation) = calls::derive(&question, 300, 4_096);
@@ -128,8 +128,12 @@ fn bytes_of_each_command() {
         assert_eq!(length, derivation.len() as u64, "{:02x?}", question);
         on_letters += letters;
         on_equals += equals;
+        let on = |letter: u8| order::commands(&derivation).contains(&&[0x41, letter][..]);
+        on_high += u32::from((HIGH..LETTERS).any(on));
+        on_last += u32::from(on(LETTERS - 1));
     }
     assert!(on_letters > 10_000 && on_equals > 10_000, "{} {}", on_letters, on_equals);
+    assert!(on_high > 1_000 && on_last > 100, "{} {}", on_high, on_last);
 }
 
 /// Every byte, some telling values; every cut; a byte less and a byte more.
@@ -140,6 +144,7 @@ fn damage_bytes(derivation: &[u8], rng: &mut Prng, mut see: impl FnMut(&[u8])) {
             byte.wrapping_add(1),
             byte.wrapping_sub(1),
             byte ^ 0x30,
+            byte ^ HIGH,
             byte ^ 1 << rng.below(8),
             rng.byte(),
             rng.pick(&COMMANDS),
@@ -232,7 +237,7 @@ fn derivations_in_another_order() {
                     for _ in 0..6 {
                         let mut damaged = derivation.clone();
                         let at = rng.below(damaged.len());
-                        damaged[at] = damaged[at].wrapping_add(rng.pick(&[1, 255, 0x10, 0xf0, 3]));
+                        damaged[at] = damaged[at].wrapping_add(rng.pick(&[1, 255, 0x10, 0xf0, 3, HIGH]));
                         agree(&question, &damaged);
                     }
                 }
@@ -243,11 +248,15 @@ fn derivations_in_another_order() {
     assert!(on_equals > 2_000, "{}", on_equals);
 }
 
-/// A command with operands below 3.
-fn command(rng: &mut Prng) -> Vec<u8> {
+/// A command with a letter of the question, or with places below 3.
+fn command(rng: &mut Prng, question: &[u8]) -> Vec<u8> {
     let command = rng.pick(&COMMANDS[1..]);
-    let operands = if command == 0x42 { 2 } else { 1 };
-    std::iter::once(command).chain((0..operands).map(|_| rng.below(3) as u8)).collect()
+    let place = |rng: &mut Prng| rng.below(3) as u8;
+    match command {
+        0x41 => vec![command, question[rng.pick(&questions::letter_places(question))]],
+        0x42 => vec![command, place(rng), place(rng)],
+        _ => vec![command, place(rng)],
+    }
 }
 
 /// A derivation of one question put beside another one; and bytes that are no derivation at all.
@@ -259,7 +268,7 @@ fn derivations_of_other_questions() {
         agree(&questions::short(&mut rng), &derivation);
         let (question, _) = proved(&mut rng, 5, 30, false);
         agree(&question, &derivation);
-        let made: Vec<u8> = (0..rng.below(20)).flat_map(|_| command(&mut rng)).collect();
+        let made: Vec<u8> = (0..rng.below(20)).flat_map(|_| command(&mut rng, &question)).collect();
         agree(&question, &made);
     }
 }

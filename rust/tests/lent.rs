@@ -133,14 +133,15 @@ fn no_list_goes_beyond_the_lent_places() {
         let question = for_question.put(&bytes, at_end).cast_const();
         let length = truth::states(&bytes, usize::MAX).2.len();
         for room in [0, length.saturating_sub(1), length, length + 3] {
-            let start = for_states.put(&vec![0xa5; 4 * room], at_end).cast::<u32>();
+            let start = for_states.put(&vec![0xa5; 8 * room], at_end).cast::<u64>();
             let mut out = [7; 1];
             let number = unsafe { raw::gekunday_states(question, bytes.len(), start, room, out.as_mut_ptr()) };
             let (due, word, states) = truth::states(&bytes, room);
             assert_eq!((number, out), (due, word), "{:02x?} with room {}", bytes, room);
             let lent = unsafe { std::slice::from_raw_parts(start, room) };
             assert_eq!(lent[..states.len()], states);
-            assert!(lent[states.len()..].iter().all(|&state| state == 0xa5a5_a5a5), "{:02x?}: {}", bytes, room);
+            let kept = lent[states.len()..].iter().all(|&state| state == 0xa5a5_a5a5_a5a5_a5a5);
+            assert!(kept, "{:02x?}: {}", bytes, room);
             numbers[number as usize] += 1;
         }
     }
@@ -193,8 +194,8 @@ fn lengths_over_32_bits() {
 #[test]
 fn a_room_over_32_bits_for_states() {
     let room = 1usize << 32;
-    let buffer = Mapped::new(4 * room, READ_WRITE);
-    let states = buffer.start.cast::<u32>();
+    let buffer = Mapped::new(8 * room, READ_WRITE);
+    let states = buffer.start.cast::<u64>();
     // P OR Q on the left.
     let question = [0x10, 1, 4, 1, 0, 1, 1, 0x20, 0];
     let mut out = [7; 1];

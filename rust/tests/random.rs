@@ -5,15 +5,17 @@ mod common;
 
 use common::examine::{examine, Seen};
 use common::prng::Prng;
-use common::questions::{damaged, equiv_chains, near_limits, repeated, short, theorem};
+use common::questions::{damaged, equiv_chains, many_letters, near_limits, repeated, short, theorem};
+use common::LETTERS;
 
 const SHORT: u64 = 80_000;
 const THEOREMS: u64 = 30_000;
 const NEAR_LIMITS: u64 = 20_000;
+const MANY_LETTERS: u64 = 10_000;
 const REPEATED: u64 = 40_000;
 const DAMAGED: u64 = 90_000;
 
-const _: () = assert!(SHORT + THEOREMS + NEAR_LIMITS + REPEATED + DAMAGED >= 200_000);
+const _: () = assert!(SHORT + THEOREMS + NEAR_LIMITS + MANY_LETTERS + REPEATED + DAMAGED >= 200_000);
 
 fn run(seed: u64, count: u64, limit: usize, make: impl Fn(&mut Prng) -> Vec<u8>) -> Seen {
     let mut rng = Prng::new(seed);
@@ -35,6 +37,8 @@ fn short_questions() {
     assert!(seen.states > seen.refuted * 3 / 2, "{:?}", seen);
     assert!(seen.theorems > SHORT / 10 && seen.refuted > SHORT / 10, "{:?}", seen);
     assert!(seen.closings > SHORT / 2, "{:?}", seen);
+    assert!(seen.high.questions > SHORT / 2 && seen.high.closings > SHORT / 4, "{:?}", seen);
+    assert!(seen.high.refuting > seen.refuted / 3 && seen.high.listed > seen.states / 3, "{:?}", seen);
 }
 
 #[test]
@@ -45,6 +49,7 @@ fn theorems_by_construction() {
     assert_eq!((seen.listed, seen.states), (THEOREMS, 0));
     assert!(seen.theorems > THEOREMS * 9 / 10, "{:?}", seen);
     assert!(seen.reductions > 20 * THEOREMS && seen.most_reductions > 1_000, "{:?}", seen);
+    assert!(seen.high.questions > THEOREMS / 2 && seen.high.closings > 5 * THEOREMS, "{:?}", seen);
 }
 
 #[test]
@@ -57,7 +62,23 @@ fn questions_near_the_limits() {
     assert!(seen.large > NEAR_LIMITS / 100, "{:?}", seen);
     assert!(seen.tables > NEAR_LIMITS / 4, "{:?}", seen);
     assert!(seen.listed > NEAR_LIMITS / 4 && seen.states > NEAR_LIMITS / 4, "{:?}", seen);
-    assert!(seen.many_letters > NEAR_LIMITS / 10, "{:?}", seen);
+    assert!(seen.many_letters > NEAR_LIMITS / 10 && seen.most_letters > 40, "{:?}", seen);
+    assert!(seen.high.questions > NEAR_LIMITS / 2 && seen.high.closings > NEAR_LIMITS, "{:?}", seen);
+    assert!(seen.high.refuting > seen.refuted / 2 && seen.high.listed > seen.states / 2, "{:?}", seen);
+}
+
+/// From 17 different letters to all 64.
+#[test]
+fn questions_with_many_letters() {
+    let seen = run(9, MANY_LETTERS, 400, |rng| {
+        let count = rng.within(17, LETTERS.into());
+        many_letters(rng, count)
+    });
+    assert_eq!(seen.refused, [0; 8]);
+    assert_eq!((seen.many_letters, seen.most_letters), (MANY_LETTERS, LETTERS.into()));
+    assert_eq!(seen.high.refuting, seen.refuted);
+    assert!(seen.theorems > MANY_LETTERS / 2 && seen.refuted > MANY_LETTERS / 20, "{:?}", seen);
+    assert!(seen.high.closings > seen.theorems, "{:?}", seen);
 }
 
 /// Equal formulas with a connective meet on both sides, also where several could close, and where a letter does.
@@ -72,6 +93,7 @@ fn formulas_on_both_sides() {
     assert!(equals.over_0 > REPEATED / 2, "{:?}", seen);
     assert!(equals.more_left > REPEATED / 4 && equals.more_right > REPEATED / 4, "{:?}", seen);
     assert!(equals.letter_first > REPEATED / 10, "{:?}", seen);
+    assert!(seen.high.questions > REPEATED / 2 && seen.high.closings > REPEATED, "{:?}", seen);
 }
 
 #[test]
@@ -82,6 +104,7 @@ fn damaged_questions() {
     }
     assert!(seen.theorems + seen.refuted > DAMAGED / 30, "{:?}", seen);
     assert!(seen.listed > DAMAGED / 30 && seen.many_letters > DAMAGED / 1_000, "{:?}", seen);
+    assert!(seen.high.questions > DAMAGED / 30 && seen.high.closings > DAMAGED / 30, "{:?}", seen);
 }
 
 /// Large trees, whole.

@@ -5,19 +5,29 @@ mod common;
 
 use common::examine::states;
 use common::prng::Prng;
-use common::questions::{self, Shape, AND, EQUIV, LETTER, NOT};
-use common::{calls, truth};
+use common::questions::{self, Shape, AND, EQUIV, LETTER, NOT, OR};
+use common::{calls, high_letters, truth, HIGH, LETTERS};
 use gekunday::{NotListed, Refusal, VARIED_MAX};
 use std::ops::Range;
 
-/// A question of letters alone.
+/// A question of letters alone, up to 16 on a side. More are joined, by AND on the left and by OR on the right.
 fn letters_alone(left: Range<u8>, right: Range<u8>) -> Vec<u8> {
     let mut question = vec![];
-    for (command, letters) in [(0x10, left), (0x20, right)] {
-        question.extend([command, letters.len() as u8]);
-        question.extend(letters.flat_map(|letter| [LETTER, letter]));
+    for (command, connective, letters) in [(0x10, AND, left), (0x20, OR, right)] {
+        let formulas = letters.len().min(16);
+        question.extend([command, formulas as u8]);
+        for first in letters.clone().take(formulas) {
+            let joined: Vec<u8> = (first..letters.end).step_by(16).collect();
+            question.extend(vec![connective; joined.len() - 1]);
+            question.extend(joined.iter().flat_map(|&letter| [LETTER, letter]));
+        }
     }
     question
+}
+
+/// The state in which these letters are true.
+fn state_of(letters: Range<u8>) -> u64 {
+    letters.fold(0, |set, letter| set | 1 << letter)
 }
 
 /// A random question with so many different letters, 48 connectives, and at most so many formulas on each side.
@@ -34,11 +44,11 @@ fn with_letters(rng: &mut Prng, count: usize, formulas: usize) -> Vec<u8> {
 }
 
 /// A theorem has an empty list, and the state that `decide` refutes with is listed. False where the budget is spent.
-fn decided(question: &[u8], listed: &[u32]) -> bool {
+fn decided(question: &[u8], listed: &[u64]) -> bool {
     match calls::decide(question, 100_000) {
         (0, [0, ..]) => assert!(listed.is_empty(), "the list of {:02x?}", question),
         (0, [_, state, ..]) => {
-            assert!(listed.contains(&(state as u32)), "the list of {:02x?} lacks {}", question, state);
+            assert!(listed.contains(&state), "the list of {:02x?} lacks {}", question, state);
         }
         (number, _) => {
             assert_eq!(number, 9);
@@ -54,18 +64,18 @@ fn a_state_is_listed_exactly_if_it_refutes() {
     let mut rng = Prng::new(31);
     let (mut listed, mut others) = (0, 0);
     for round in 0..4_000 {
-        // The lowest letters and the highest in turn.
-        let base = if round % 2 == 0 { 0 } else { 24 };
+        // The lowest letters, those around 32 and the highest in turn.
+        let base = [0, HIGH - 4, LETTERS - 8][round % 3];
         let letters = (0..rng.within(1, 8)).map(|_| base + rng.below(8) as u8).collect();
         let shape = Shape { letters, thrift: 0, apart: false, nots: true };
         let (left, right, connectives) = (rng.below(3), rng.below(2), rng.below(20));
         let question = questions::question(&mut rng, &shape, left, right, connectives);
         let table = truth::read(&question).unwrap();
-        let occurring = table.letters().iter().fold(0u32, |set, letter| set | 1 << letter);
+        let occurring = table.letters().iter().fold(0u64, |set, letter| set | 1 << letter);
 
         let (number, [count], states) = calls::states(&question, 256);
-        let refuting: Vec<u32> = (0..256).map(|low| low << base).filter(|&state| !table.true_in(state)).collect();
-        let due: Vec<u32> = refuting.iter().copied().filter(|state| state & !occurring == 0).collect();
+        let refuting: Vec<u64> = (0..256).map(|low| low << base).filter(|&state| !table.true_in(state)).collect();
+        let due: Vec<u64> = refuting.iter().copied().filter(|state| state & !occurring == 0).collect();
         assert_eq!((number, count, &states), (0, due.len() as u64, &due), "states of {:02x?}", question);
         listed += due.len();
         others += refuting.len() - due.len();
@@ -86,18 +96,22 @@ fn the_longest_list() {
     assert_eq!(calls::states(&question, 65_536), (0, [65_536], (0..65_536).collect()));
     assert_eq!(states(&question).len(), 65_536);
 
-    // Every second letter, read from the highest on: the numbers ascend all the same.
-    let question = every(|k| 31 - 2 * k);
+    // Every fourth letter, read from the highest on: the numbers ascend all the same.
+    let question = every(|k| LETTERS - 1 - 4 * k);
     let listed = states(&question);
-    assert_eq!((listed.len(), &listed[..4]), (65_536, &[0, 1 << 1, 1 << 3, 1 << 3 | 1 << 1][..]));
-    assert_eq!(listed[65_535], 0xaaaa_aaaa);
+    assert_eq!((listed.len(), &listed[..4]), (65_536, &[0, 1 << 3, 1 << 7, 1 << 7 | 1 << 3][..]));
+    assert_eq!(listed[65_535], 0x8888_8888_8888_8888);
     assert!(decided(&question, &listed));
+
+    // The sixteen highest letters.
+    let question = every(|k| LETTERS - 16 + k);
+    assert_eq!(states(&question), (0..65_536).map(|low| low << 48).collect::<Vec<u64>>());
 }
 
 /// EQUIV 48 times over 16 letters: half of all states refute.
 #[test]
 fn half_of_all_states() {
-    let letters: Vec<u8> = (0..49).flat_map(|place| [LETTER, 31 - place % 16]).collect();
+    let letters: Vec<u8> = (0..49).flat_map(|place| [LETTER, LETTERS - 1 - place % 16]).collect();
     let question = [&[0x10, 0, 0x20, 1], &[EQUIV; 48][..], &letters].concat();
     let listed = states(&question);
     assert_eq!(listed.len(), 32_768);
@@ -108,7 +122,7 @@ fn half_of_all_states() {
 #[test]
 fn long_lists() {
     let mut rng = Prng::new(32);
-    let (mut long, mut theorems, mut verdicts) = (0, 0, 0);
+    let (mut long, mut theorems, mut verdicts, mut high) = (0, 0, 0, 0);
     for count in 11..=16 {
         for _ in 0..30 {
             let question = with_letters(&mut rng, count, 2);
@@ -116,20 +130,25 @@ fn long_lists() {
             long += u32::from(listed.len() > 256);
             theorems += u32::from(listed.is_empty());
             verdicts += u32::from(decided(&question, &listed));
+            high += u32::from(listed.iter().any(|&state| high_letters(state) != 0));
         }
     }
     assert!(long > 60 && theorems > 30 && verdicts > 150, "{} {} {}", long, theorems, verdicts);
+    assert!(high >= long, "{} {}", high, long);
 }
 
 /// 16 different letters give a list, 17 and more give 12 with their number, whatever the room. Both sides count.
 #[test]
 fn from_no_letter_to_all() {
-    for count in 0..=32u8 {
-        for left in [count / 2, count.min(16), count.saturating_sub(16)] {
-            let question = letters_alone(0..left, left..count);
+    for count in 0..=LETTERS {
+        for (first, left) in [(0, count / 2), (LETTERS - count, count.min(16)), ((LETTERS - count) / 2, count), (0, 0)]
+        {
+            let (middle, end) = (first + left, first + count);
+            let question = letters_alone(first..middle, middle..end);
+            // False only where the letters on the left are true and those on the right are not.
+            assert_eq!(calls::decide(&question, 48).1[..2], [1, state_of(first..middle)], "{} letters", count);
             if count <= 16 {
-                // False only where the letters on the left are true and those on the right are not.
-                assert_eq!(states(&question), [(1 << left) - 1], "{} letters", count);
+                assert_eq!(states(&question), [state_of(first..middle)], "{} letters", count);
                 continue;
             }
             for room in [0, 1, 65_535, 65_536, 200_000] {
@@ -144,9 +163,9 @@ fn from_no_letter_to_all() {
 #[test]
 fn many_letters() {
     let mut rng = Prng::new(33);
-    for count in 17..=32 {
+    for count in 17..=LETTERS.into() {
         for _ in 0..20 {
-            let question = with_letters(&mut rng, count, 16);
+            let question = questions::many_letters(&mut rng, count);
             for room in [0, 1, 70_000] {
                 assert_eq!(calls::states(&question, room), (12, [count as u64], vec![]), "{:02x?}", question);
             }
@@ -157,12 +176,14 @@ fn many_letters() {
 /// 12 is not for the lists that would be long: a theorem with 17 letters gives it, too.
 #[test]
 fn theorems_with_many_letters() {
-    let sixteen = letters_alone(0..16, 0..16);
-    assert_eq!(calls::states(&sixteen, 0), (0, [0], vec![]));
-    assert!(states(&sixteen).is_empty() && decided(&sixteen, &[]));
-    let seventeen = letters_alone(0..16, 15..17);
-    assert_eq!(calls::states(&seventeen, 0), (12, [17], vec![]));
-    assert!(states(&seventeen).is_empty() && decided(&seventeen, &[]));
+    for first in [0, HIGH - 8, LETTERS - 17] {
+        let sixteen = letters_alone(first..first + 16, first..first + 16);
+        assert_eq!(calls::states(&sixteen, 0), (0, [0], vec![]));
+        assert!(states(&sixteen).is_empty() && decided(&sixteen, &[]));
+        let seventeen = letters_alone(first..first + 16, first + 15..first + 17);
+        assert_eq!(calls::states(&seventeen, 0), (12, [17], vec![]));
+        assert!(states(&seventeen).is_empty() && decided(&seventeen, &[]));
+    }
 }
 
 /// Every byte, every value: 1 to 7 as the other reader says, before 12 and 11.

@@ -94,10 +94,10 @@ pub fn check(question: &[u8], derivation: &[u8]) -> (u32, [u64; 1]) {
 }
 
 /// Number, word and, under 0, the states that were listed.
-pub fn states(question: &[u8], room: usize) -> (u32, [u64; 1], Vec<u32>) {
-    let pattern = |i: usize| 0xa5c3_960f ^ (i as u32).wrapping_mul(0x9e37_79b1);
+pub fn states(question: &[u8], room: usize) -> (u32, [u64; 1], Vec<u64>) {
+    let pattern = |i: usize| 0xa5c3_960f_1e78_d24b ^ (i as u64).wrapping_mul(0x9e37_79b9_7f4a_7c15);
     let mut lent = Lent::new(question);
-    let mut arena: Vec<u32> = (0..room + 2 * EDGE).map(pattern).collect();
+    let mut arena: Vec<u64> = (0..room + 2 * EDGE).map(pattern).collect();
     let start = arena[EDGE..].as_mut_ptr();
     let (number, words) =
         with_out::<1>(|out| unsafe { raw::gekunday_states(lent.start(), question.len(), start, room, out) });

@@ -2,7 +2,7 @@
 
 use super::prng::Prng;
 use super::tree::{self, End, Equals, Question, Tree};
-use super::{calls, order, truth};
+use super::{calls, high_letters, order, truth, HIGH};
 use gekunday::{Kind, NotListed, NotWritten, Refusal, Side, Verdict};
 
 /// What has been seen, so that a test can show that its questions were not all of one kind.
@@ -18,8 +18,10 @@ pub struct Seen {
     /// Questions whose refuting states were listed, and these states.
     pub listed: u64,
     pub states: u64,
-    /// Questions with too many letters for a list.
+    /// Questions with too many letters for a list, and the most different letters that one had.
     pub many_letters: u64,
+    pub most_letters: usize,
+    pub high: High,
     /// Questions with 48 connectives, with 212 bytes, with 16 formulas on a side.
     pub most_connectives: u64,
     pub most_bytes: u64,
@@ -28,6 +30,17 @@ pub struct Seen {
     pub closings: u64,
     pub equals: Equals,
     pub most_reductions: u64,
+}
+
+/// Where letters were seen that have no bit in a state of 32 bits.
+#[derive(Default, Debug)]
+pub struct High {
+    pub questions: u64,
+    /// Closings on such a letter, in derivations.
+    pub closings: u64,
+    /// States of refuted questions, and states listed, in which such a letter is true.
+    pub refuting: u64,
+    pub listed: u64,
 }
 
 /// Letters up to which the whole table is gone through.
@@ -82,8 +95,11 @@ fn accepted(bytes: &[u8], question: &Question, table: &truth::Sequent, rng: &mut
     seen.most_connectives += u64::from(question.connectives == 48);
     seen.most_bytes += u64::from(bytes.len() == 212);
     seen.most_formulas += u64::from(question.left.len() == 16 || question.right.len() == 16);
+    let letters = table.letters();
+    seen.most_letters = seen.most_letters.max(letters.len());
+    seen.high.questions += u64::from(letters.iter().any(|&letter| letter >= HIGH));
     formulas(bytes, question, rng);
-    let listed = listed(bytes, table.letters().len(), seen);
+    let listed = listed(bytes, letters.len(), seen);
 
     let width = question.width();
     let c = question.connectives;
@@ -106,7 +122,7 @@ fn accepted(bytes: &[u8], question: &Question, table: &truth::Sequent, rng: &mut
     bounds(bytes, question, &tree);
     truthful(bytes, table, listed, seen);
     let tight = rng.pick(&budgets);
-    derivation(bytes, &tree, tight, rng);
+    derivation(bytes, &tree, tight, rng, seen);
     wrapped_derive(bytes, &tree, tight);
 }
 
@@ -132,7 +148,7 @@ fn verdicts(bytes: &[u8], tree: &Tree, rng: &mut Prng) -> Vec<u64> {
         let (number, [refuted, state, reductions, closings]) = expected;
         let kind = match (number, refuted) {
             (0, 0) => Kind::Theorem,
-            (0, _) => Kind::Refuted(state as u32),
+            (0, _) => Kind::Refuted(state),
             _ => Kind::Spent,
         };
         assert_eq!(gekunday::decide(bytes, budget), Ok(Verdict { kind, reductions, closings }));
@@ -151,7 +167,7 @@ fn bounds(bytes: &[u8], question: &Question, tree: &Tree) {
 }
 
 /// The derivation, with rooms on both sides of its length, and budgets on both sides of the reductions.
-fn derivation(bytes: &[u8], tree: &Tree, tight: u64, rng: &mut Prng) {
+fn derivation(bytes: &[u8], tree: &Tree, tight: u64, rng: &mut Prng, seen: &mut Seen) {
     let length = tree.derivation.len();
     let mut rooms = vec![0, length, length + rng.within(1, 40)];
     rooms.extend(length.checked_sub(1));
@@ -173,15 +189,18 @@ fn derivation(bytes: &[u8], tree: &Tree, tight: u64, rng: &mut Prng) {
         assert_eq!(order::check(bytes, &tree.derivation), (0, 0), "the other checker, on {:02x?}", bytes);
         assert_eq!(calls::check(bytes, &tree.derivation), (0, [0]), "check {:02x?}", bytes);
         assert_eq!(gekunday::check(bytes, &tree.derivation), Ok(()));
+        let commands = order::commands(&tree.derivation);
+        seen.high.closings += commands.iter().filter(|command| command[0] == 0x41 && command[1] >= HIGH).count() as u64;
     }
 }
 
 /// The truth, from the library's own words.
-fn truthful(bytes: &[u8], table: &truth::Sequent, listed: Option<Vec<u32>>, seen: &mut Seen) {
+fn truthful(bytes: &[u8], table: &truth::Sequent, listed: Option<Vec<u64>>, seen: &mut Seen) {
     let (_, [refuted, state, ..]) = calls::decide(bytes, u64::MAX);
     if refuted == 1 {
         seen.refuted += 1;
-        assert!(!table.true_in(state as u32), "{:02x?} is true in state {}", bytes, state);
+        seen.high.refuting += u64::from(high_letters(state) != 0);
+        assert!(!table.true_in(state), "{:02x?} is true in state {}", bytes, state);
         let occurring = table.letters().iter().fold(0u64, |set, &letter| set | 1 << letter);
         assert_eq!(state & !occurring, 0, "a letter of the state does not occur in {:02x?}", bytes);
     } else {
@@ -193,17 +212,18 @@ fn truthful(bytes: &[u8], table: &truth::Sequent, listed: Option<Vec<u32>>, seen
     }
     if let Some(states) = listed {
         assert_eq!(states.is_empty(), refuted == 0, "the list of {:02x?}", bytes);
-        assert!(refuted == 0 || states.contains(&(state as u32)), "the list of {:02x?} lacks {}", bytes, state);
+        assert!(refuted == 0 || states.contains(&state), "the list of {:02x?} lacks {}", bytes, state);
     }
 }
 
 /// The list of refuting states, where the letters are few. Where they are too many for a list, it is refused.
-fn listed(bytes: &[u8], letters: usize, seen: &mut Seen) -> Option<Vec<u32>> {
+fn listed(bytes: &[u8], letters: usize, seen: &mut Seen) -> Option<Vec<u64>> {
     match letters {
         0..=LISTED_LETTERS => {
             let states = states(bytes);
             seen.listed += 1;
             seen.states += states.len() as u64;
+            seen.high.listed += states.iter().filter(|&&state| high_letters(state) != 0).count() as u64;
             Some(states)
         }
         17.. => {
@@ -216,7 +236,7 @@ fn listed(bytes: &[u8], letters: usize, seen: &mut Seen) -> Option<Vec<u32>> {
 }
 
 /// The list of refuting states, with rooms on both sides of its length. Answers the list, empty where it is refused.
-pub fn states(bytes: &[u8]) -> Vec<u32> {
+pub fn states(bytes: &[u8]) -> Vec<u64> {
     let (_, _, states) = truth::states(bytes, usize::MAX);
     let length = states.len();
     let mut rooms = vec![0, length.saturating_sub(1), length, length + 4];
@@ -229,8 +249,8 @@ pub fn states(bytes: &[u8]) -> Vec<u32> {
     states
 }
 
-fn wrapped_states(bytes: &[u8], room: usize, (number, [word], states): (u32, [u64; 1], Vec<u32>)) {
-    const BEFORE: u32 = 0xeeee_eeee;
+fn wrapped_states(bytes: &[u8], room: usize, (number, [word], states): (u32, [u64; 1], Vec<u64>)) {
+    const BEFORE: u64 = 0xeeee_eeee_eeee_eeee;
     let mut buffer = vec![BEFORE; room];
     let answer = gekunday::states(bytes, &mut buffer);
     assert_eq!(answer.map_or_else(NotListed::number, |_| 0), number);
@@ -257,7 +277,7 @@ fn wrapped_derive(bytes: &[u8], tree: &Tree, budget: u64) {
         }
         (9, [reductions, closings, _]) => assert_eq!(answer, Err(NotWritten::Spent { reductions, closings })),
         (10, [state, reductions, closings]) => {
-            assert_eq!(answer, Err(NotWritten::NotProved { state: state as u32, reductions, closings }));
+            assert_eq!(answer, Err(NotWritten::NotProved { state, reductions, closings }));
         }
         other => panic!("not expected here: {:?}", other),
     }

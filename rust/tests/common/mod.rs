@@ -2,6 +2,18 @@
 //! `order` is a third, for derivations: each reads the bytes in its own way.
 #![allow(dead_code)] // each test file uses its own part
 
+/// Letters are numbered from 0 to 63. The tests do not take this number from the library.
+pub const LETTERS: u8 = 64;
+const _: () = assert!(LETTERS as usize == gekunday::LETTERS);
+
+/// From this letter on, letters have no bit in a state of 32 bits.
+pub const HIGH: u8 = 32;
+
+/// The letters of a state from `HIGH` on.
+pub fn high_letters(state: u64) -> u64 {
+    state >> HIGH << HIGH
+}
+
 pub mod calls;
 pub mod examine;
 pub mod order;

@@ -2,6 +2,7 @@
 //! the question, the reductions a table. Questions here are accepted ones.
 
 use super::prng::Prng;
+use super::LETTERS;
 
 const LEFT: usize = 0;
 const RIGHT: usize = 1;
@@ -99,7 +100,7 @@ impl<'q> Sequent<'q> {
 
     /// Each command that closes.
     fn closing(&self) -> Vec<Vec<u8>> {
-        let letters = (0..32).filter(|&letter| self.has_letter(LEFT, letter) && self.has_letter(RIGHT, letter));
+        let letters = (0..LETTERS).filter(|&letter| self.has_letter(LEFT, letter) && self.has_letter(RIGHT, letter));
         let on_letters = letters.map(|letter| vec![0x41, letter]);
         let pairs = (0..self.0[LEFT].len()).flat_map(|left| (0..self.0[RIGHT].len()).map(move |right| (left, right)));
         let equals = pairs.filter(|&(left, right)| self.equals(left, right).is_ok());

@@ -1,7 +1,8 @@
-//! Random questions: short ones, ones near the limits, theorems by construction, ones with formulas on both sides, and
-//! damaged ones.
+//! Random questions: short ones, ones near the limits, ones with many letters, theorems by construction, ones with
+//! formulas on both sides, and damaged ones.
 
 use super::prng::Prng;
+use super::{HIGH, LETTERS};
 
 pub const LETTER: u8 = 1;
 pub const NOT: u8 = 2;
@@ -23,9 +24,9 @@ pub struct Shape {
 
 /// `count` different letters.
 pub fn some_letters(rng: &mut Prng, count: usize) -> Vec<u8> {
-    let mut all: Vec<u8> = (0..32).collect();
+    let mut all: Vec<u8> = (0..LETTERS).collect();
     for i in 0..count {
-        let j = rng.within(i, 31);
+        let j = rng.within(i, all.len() - 1);
         all.swap(i, j);
     }
     all.truncate(count);
@@ -96,7 +97,7 @@ pub fn short(rng: &mut Prng) -> Vec<u8> {
 }
 
 pub fn near_limits(rng: &mut Prng) -> Vec<u8> {
-    let count = rng.pick(&[1, 2, 4, 8, 12, 12, 24, 32]);
+    let count = rng.pick(&[1, 2, 4, 8, 12, 12, 24, 40, LETTERS.into()]);
     let shape = Shape {
         letters: some_letters(rng, count),
         thrift: rng.pick(&[60, 90, 97, 100]),
@@ -106,6 +107,49 @@ pub fn near_limits(rng: &mut Prng) -> Vec<u8> {
     let (left, right) = (rng.pick(&[0, 1, 3, 8, 15, 16, 16]), rng.pick(&[0, 1, 3, 8, 15, 16, 16]));
     let connectives = rng.pick(&[48, 48, 47, 40, 30]);
     question(rng, &shape, left, right, connectives)
+}
+
+/// The places of a question's letters: of the bytes that number them.
+pub fn letter_places(question: &[u8]) -> Vec<usize> {
+    let mut places = vec![];
+    let mut at = 0;
+    while at < question.len() {
+        match question[at] {
+            LETTER => {
+                places.push(at + 1);
+                at += 2
+            }
+            0x10 | 0x20 => at += 2,
+            _ => at += 1,
+        }
+    }
+    places
+}
+
+/// The same question with other letters.
+pub fn renamed(question: &[u8], name: impl Fn(u8) -> u8) -> Vec<u8> {
+    let mut bytes = question.to_vec();
+    for place in letter_places(question) {
+        bytes[place] = name(bytes[place]);
+    }
+    bytes
+}
+
+/// A question with so many different letters and 48 connectives, none of them NOT.
+pub fn many_letters(rng: &mut Prng, count: usize) -> Vec<u8> {
+    let letters = some_letters(rng, count);
+    let shape = Shape { letters, thrift: rng.pick(&[60, 90, 100]), apart: false, nots: false };
+    // It has as many places for letters as formulas and connectives together.
+    let left = rng.within(0, 16);
+    let right = rng.within(count.saturating_sub(48 + left).max(1), 16);
+    let mut bytes = question(rng, &shape, left, right, 48);
+    let mut places = letter_places(&bytes);
+    for (i, &letter) in shape.letters.iter().enumerate() {
+        let j = rng.within(i, places.len() - 1);
+        places.swap(i, j);
+        bytes[places[i]] = letter;
+    }
+    bytes
 }
 
 /// Another formula that is true in the same states.
@@ -238,7 +282,8 @@ pub fn repeated(rng: &mut Prng) -> Vec<u8> {
     }
 }
 
-const TELLING: [u8; 18] = [0, 1, 2, 3, 4, 5, 6, 7, 15, 16, 17, 0x20, 0x21, 31, 33, 48, 127, 255];
+const TELLING: [u8; 19] =
+    [0, 1, 2, 3, 4, 5, 6, 7, 15, 16, 17, 0x20, 0x21, 48, LETTERS - 1, LETTERS, LETTERS + 1, 127, 255];
 
 /// A question with some bytes changed, put in, taken out or appended, or one that goes over a limit.
 pub fn damaged(rng: &mut Prng) -> Vec<u8> {
@@ -269,7 +314,7 @@ pub fn damaged(rng: &mut Prng) -> Vec<u8> {
 
 /// A question over the limits now and then.
 fn over_limits(rng: &mut Prng) -> Vec<u8> {
-    let letters = if rng.chance(10) { 33 } else { 32 };
+    let letters = if rng.chance(10) { LETTERS + 1 } else { LETTERS };
     let shape = Shape { letters: (0..letters).collect(), thrift: 50, apart: false, nots: true };
     let (left, right) = (rng.pick(&[1, 15, 16, 17]), rng.pick(&[1, 15, 16, 16]));
     let connectives = rng.within(46, 52);
@@ -298,12 +343,15 @@ fn damage(rng: &mut Prng, bytes: &mut Vec<u8>) {
     }
 }
 
-/// A theorem with a large tree: EQUIV over so many letters, on the right, with its letters in the opposite order.
+/// A theorem with a large tree: EQUIV over so many letters around 32, on the right, with its letters in the opposite
+/// order.
 pub fn equiv_chains(letters: u8) -> Vec<u8> {
+    let first = HIGH - letters / 2;
+    let letters = first..first + letters;
     let chain = |letters: Vec<u8>| -> Vec<u8> {
         let mut bytes = vec![EQUIV; letters.len() - 1];
         bytes.extend(letters.iter().flat_map(|&letter| [LETTER, letter]));
         bytes
     };
-    [&[0x10, 0, 0x20, 1, EQUIV][..], &chain((0..letters).collect()), &chain((0..letters).rev().collect())].concat()
+    [&[0x10, 0, 0x20, 1, EQUIV][..], &chain(letters.clone().collect()), &chain(letters.rev().collect())].concat()
 }

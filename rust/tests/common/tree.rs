@@ -1,6 +1,7 @@
 //! The tree of a question, grown apart from the library: a recursive-descent reader, formulas as boxes with their bytes,
 //! widths in 128 bits, and document 01's reductions written out one by one.
 
+use super::LETTERS;
 use std::ops::AddAssign;
 
 pub struct Formula<'q> {
@@ -96,7 +97,7 @@ impl<'q> Reader<'q> {
         let command = self.take()?;
         if command == 0x01 {
             let letter = self.take()?;
-            return if letter <= 31 { Ok(Shape::Letter(letter)) } else { self.refuse(5) };
+            return if letter < LETTERS { Ok(Shape::Letter(letter)) } else { self.refuse(5) };
         }
         if !(0x02..=0x06).contains(&command) {
             return self.refuse(3);
@@ -171,7 +172,7 @@ impl Question<'_> {
 #[derive(Clone, Copy, Debug, PartialEq, Eq)]
 pub enum End {
     Theorem,
-    Refuted(u32),
+    Refuted(u64),
     Full,
     /// More reductions than the limit.
     Large,
@@ -222,7 +223,7 @@ struct Sequent<'q> {
     right: Vec<&'q Formula<'q>>,
 }
 
-fn letters(side: &[&Formula]) -> u32 {
+fn letters(side: &[&Formula]) -> u64 {
     side.iter().fold(0, |set, formula| match formula.shape {
         Shape::Letter(letter) => set | 1 << letter,
         _ => set,
@@ -378,7 +379,7 @@ impl Tree {
         }
         match self.end {
             End::Theorem => (0, [0, 0, self.reductions, self.closings]),
-            End::Refuted(state) => (0, [1, state.into(), self.reductions, self.closings]),
+            End::Refuted(state) => (0, [1, state, self.reductions, self.closings]),
             End::Full => (8, [0, 0, self.reductions, self.closings]),
             End::Large => panic!("the tree was cut off before this budget"),
         }
