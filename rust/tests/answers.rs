@@ -9,6 +9,8 @@
 //! | OP | call | operands | behind `=>` |
 //! |---|---|---|---|
 //! | D | `gekunday_decide` | budget | number, four words |
+//! | W | `gekunday_width` | | number, two words |
+//! | F | `gekunday_formula` | side, place | number, two words |
 //! | V | `gekunday_derive` | budget, room | number, three words, `kept`, the derivation |
 //! | K | `gekunday_check` | the derivation | number, place (0 where it passes) |
 //! | S | `gekunday_states` | room | number, word, `kept`, the states |
@@ -24,6 +26,14 @@ fn library(call: &[&str]) -> String {
     match *call {
         ["D", question, budget] => {
             let (number, words) = calls::decide(&bytes(question), decimal(budget));
+            format!("{number} {}", joined(&words, " "))
+        }
+        ["W", question] => {
+            let (number, words) = calls::width(&bytes(question));
+            format!("{number} {}", joined(&words, " "))
+        }
+        ["F", question, side, place] => {
+            let (number, words) = calls::formula(&bytes(question), decimal(side), decimal(place));
             format!("{number} {}", joined(&words, " "))
         }
         ["V", question, budget, room] => {
@@ -52,6 +62,10 @@ fn apart(call: &[&str]) -> String {
             format!("{number} {}", joined(&words, " "))
         }
         (["D", ..], Err((number, place))) => format!("{number} {place} 0 0 0"),
+        (["W", _], Ok(read)) => format!("0 {} {}", read.width(), read.connectives),
+        (["W", _], Err((number, place))) => format!("{number} {place} 0"),
+        (["F", _, side, place], Ok(read)) => formula(read, decimal(side), decimal(place)),
+        (["F", ..], Err(_)) => "0 0 0".to_string(),
         (["V", _, budget, room], Ok(read)) => {
             let tree = grown(read, budget);
             let (number, words) = tree.derived(decimal(budget), decimal(room));
@@ -69,6 +83,14 @@ fn apart(call: &[&str]) -> String {
             format!("{number} {word} kept {}", joined(&states, ","))
         }
         _ => panic!("no such call: {call:?}"),
+    }
+}
+
+/// The formula at a place of side 0, the left, or 1, the right.
+fn formula(question: &tree::Question, side: usize, place: usize) -> String {
+    match [&question.left, &question.right].get(side).and_then(|side| side.get(place)) {
+        Some(formula) => format!("0 {} {}", formula.start, formula.length),
+        None => "0 0 0".to_string(),
     }
 }
 
@@ -117,6 +139,7 @@ fn hexadecimal(bytes: &[u8]) -> String {
     bytes.iter().map(|byte| format!("{byte:02x}")).collect()
 }
 
+/// Line 466 numbers a letter 32. It had 5 at place 3 when letters went to 31; now 3 at place 4, where 20 is due.
 #[test]
 fn refuting_states() {
     assert_eq!(compare(include_str!("answers/a.txt")), 500);
@@ -125,4 +148,9 @@ fn refuting_states() {
 #[test]
 fn equal_formulas() {
     assert_eq!(compare(include_str!("answers/c.txt")), 1_000);
+}
+
+#[test]
+fn sixty_four_letters() {
+    assert_eq!(compare(include_str!("answers/d.txt")), 900);
 }
