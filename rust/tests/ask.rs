@@ -13,7 +13,7 @@ mod common;
 use common::prng::Prng;
 use common::questions::{self, AND, EQUIV, IMPLIES, LETTER, NOT, OR};
 use common::tree::{self, End};
-use common::{order, truth};
+use common::{order, truth, LETTERS};
 use std::io::{ErrorKind, Write};
 use std::path::PathBuf;
 use std::process::{Child, Command, Stdio};
@@ -131,7 +131,7 @@ fn cases_1_to_11() {
         ("10 00 20 01 06 01 00 01 00", "theorem 1 2 2\n66 00 41 00 41 00\n"),
         ("10 01 06 01 00 01 00 20 00", "refuted 1 1 0 2\n"),
         ("10 00 20 01 05 03 05 01 00 04 01 01 01 02 05 01 02 01 03 05 03 01 00 01 01 01 03", "refuted 3 8 1 6\n"),
-        // Case 10 is case 9 with another budget. Case 11 is as document 02, c, has it.
+        // Case 10 is case 9 with another budget. Case 11 is as document 02, c, has it; 12, below, as d has it.
         ("10 01 03 01 00 01 01 20 01 03 01 00 01 01", "theorem 0 1 2\n42 00 00\n"),
     ] {
         prints(&hex(question), text);
@@ -140,12 +140,15 @@ fn cases_1_to_11() {
 
 #[test]
 fn case_12() {
-    // Letter 31 is read, 32 gives 5.
-    prints(&hex("10 01 01 1f 20 00"), "refuted 2147483648 0 0 1\n");
-    prints(&hex("10 00 20 01 01 1f"), "refuted 0 0 0 1\n");
-    prints(&hex("10 01 01 1f 20 01 01 1f"), "theorem 0 1 1\n41 1f\n");
-    prints(&hex("10 01 01 20 20 00"), "refused 5 3\n");
-    prints(&hex("10 00 20 01 01 20"), "refused 5 5\n");
+    // Letter 63 is read, 64 gives 5.
+    prints(&hex("10 01 01 3f 20 00"), "refuted 9223372036854775808 0 0 1\n");
+    prints(&hex("10 00 20 01 01 3f"), "refuted 0 0 0 1\n");
+    prints(&hex("10 01 01 3f 20 01 01 3f"), "theorem 0 1 1\n41 3f\n");
+    prints(&hex("10 01 01 40 20 00"), "refused 5 3\n");
+    prints(&hex("10 00 20 01 01 40"), "refused 5 5\n");
+    // Letters 31 and 32 are read like any other.
+    prints(&hex("10 01 01 1f 20 01 01 20"), "refuted 2147483648 0 0 1\n");
+    prints(&hex("10 01 01 20 20 01 01 1f"), "refuted 4294967296 0 0 1\n");
     // 16 formulas on a side are read, 17 give 4.
     let (sixteen, seventeen) = ([LETTER, 3].repeat(16), [LETTER, 3].repeat(17));
     prints(&[&[0x10, 16], &sixteen[..], &[0x20, 0]].concat(), "refuted 8 0 0 1\n");
@@ -158,6 +161,26 @@ fn case_12() {
     prints(&nots(49), "refused 6 52\n");
     // The empty slice gives 2 at place 0.
     prints(&[], "refused 2 0\n");
+}
+
+/// Every byte as the number of a letter, and the states of one letter and of all.
+#[test]
+fn every_letter() {
+    for byte in 0..=255 {
+        let (left, both) = ([0x10, 1, LETTER, byte, 0x20, 0], [0x10, 1, LETTER, byte, 0x20, 1, LETTER, byte]);
+        if byte < LETTERS {
+            prints(&left, &format!("refuted {} 0 0 1\n", 1u64 << byte));
+            prints(&both, &format!("theorem 0 1 1\n41 {byte:02x}\n"));
+        } else {
+            prints(&left, "refused 5 3\n");
+            prints(&both, "refused 5 3\n");
+        }
+    }
+    // Four letters in each of 16 formulas on the left.
+    let joined =
+        |first: u8| [&[AND; 3][..], &(first..first + 4).flat_map(|k| [LETTER, k]).collect::<Vec<_>>()].concat();
+    let all: Vec<u8> = (0..LETTERS).step_by(4).flat_map(joined).collect();
+    prints(&[&[0x10, 16], &all[..], &[0x20, 0]].concat(), "refuted 18446744073709551615 48 0 1\n");
 }
 
 // Refusals
