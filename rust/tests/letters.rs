@@ -6,6 +6,7 @@ use common::examine::{examine, states, Seen};
 use common::prng::Prng;
 use common::questions::{self, renamed, AND, LETTER, NOT, OR};
 use common::{calls, high_letters, order, HIGH, LETTERS};
+use gekunday::NotWritten;
 
 /// A question with these formulas.
 fn question(left: &[Vec<u8>], right: &[Vec<u8>]) -> Vec<u8> {
@@ -166,6 +167,19 @@ fn all_letters_of_a_state() {
     }
 }
 
+/// States stored with 32 bits, from when letters went to 31, are the numbers that are answered now.
+#[test]
+fn stored_states() {
+    let stored: [u32; 3] = [0x4000_0000, 0x8000_0000, 0xc000_0000];
+    // Letter 31 OR letter 30 on the left.
+    let question = [0x10, 1, OR, LETTER, 31, LETTER, 30, 0x20, 0];
+    assert_eq!(states(&question), stored.map(u64::from));
+    let verdict = gekunday::decide(&question, 1).unwrap();
+    assert_eq!(verdict.kind, gekunday::Kind::Refuted(stored[1].into()));
+    let written = gekunday::derive(&question, 1, &mut []);
+    assert_eq!(written, Err(NotWritten::NotProved { state: stored[1].into(), reductions: 1, closings: 0 }));
+}
+
 /// The derivation with each letter that closes renamed.
 fn renamed_closings(derivation: &[u8], name: impl Fn(u8) -> u8) -> Vec<u8> {
     let renamed = |command: &&[u8]| match **command {
@@ -222,7 +236,8 @@ fn the_lower_half_and_the_upper() {
         let seen = alike(&lower, |k| k + HIGH, |state| state << HIGH);
         (0..3).for_each(|i| differ[i] += u32::from(seen[i]));
         let (_, [_, state, ..]) = calls::decide(&lower, 2_000);
-        assert_eq!(high_letters(state), 0, "{:02x?}", lower);
+        let (.., listed) = calls::states(&lower, 1_024);
+        assert!(listed.iter().chain([&state]).all(|&state| high_letters(state) == 0), "{:02x?}", lower);
     }
     assert!(differ.iter().all(|&count| count > 2_000), "{:?}", differ);
 }
