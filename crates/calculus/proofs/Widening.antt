@@ -1,22 +1,19 @@
 -- Wider limits: what was accepted is accepted, is the same question, and has the answers that it had.
 -- Assumes nothing.
-use mathlib.Core.Path.{_≡_, sym, ap, _∙_}
+use mathlib.Core.Path.{_≡_}
 use mathlib.Core.Bool.{not}
 use mathlib.Core.List.{List}
 use Prim.Native.Nat.{ℕ, _^_, _≤_, _<_}
 use native.Mathlib.Omega.{arith}
-use lib.Dec.{ltb}
-use lib.ListN.{length}
 use Rattle.calculus.specs.declared.Kind.the-variants.{Refuted}
-use Rattle.calculus.specs.Fold.{Each}
-use Rattle.calculus.specs.Limits.{Limits, LIMITS, LIMITS-BEFORE, Wider, VARIED}
+use Rattle.calculus.specs.Limits.{Limits, LIMITS, LIMITS-BEFORE, Wider}
 use Rattle.calculus.specs.Syntax.{Formula, letter, neg, join, Sequent}
 use Rattle.calculus.specs.Bytes.{question, LetteredUnder, WithinUnder}
 use Rattle.calculus.specs.Reading.{readingUnder, accepted}
 use Rattle.calculus.specs.Truth.{bit, truth}
-use Rattle.calculus.specs.Tree.{state, verdict, tree}
-use Rattle.calculus.specs.States.{filter, lettersUnder, statesOver, refutingOver}
-use Rattle.calculus.specs.Reply.{ifReadOut, listOut, Kept}
+use Rattle.calculus.specs.Tree.{tree}
+use Rattle.calculus.specs.States.{filter, lettersUnder, statesOver}
+use Rattle.calculus.specs.Reply.{Kept}
 use Rattle.calculus.proofs.Folds.{each}
 use Rattle.calculus.proofs.Trees.{state-lt}
 use Rattle.calculus.proofs.Budgets.{verdict-end}
