@@ -26,6 +26,9 @@ pub const MOST_FORMULAS: u8 = 16;
 
 pub const LETTERS: u8 = 64;
 
+// The same, as the length of a list with an item for each letter.
+pub const ALL_LETTERS: usize = LETTERS as usize;
+
 pub const MOST_CONNECTIVES: u8 = 48;
 
 // Why a question is refused, and the place.
