@@ -197,15 +197,15 @@ static void random_sequent(sequent *s, int connectives, int letters, int most_a_
     }
 }
 
-static int letters_of(const formula *f, uint32_t *seen)
+static int letters_of(const formula *f, uint64_t *seen)
 {
     if (!f)
         return 0;
     if (f->connective == LETTER)
-        *seen |= 1u << f->letter;
+        *seen |= 1ull << f->letter;
     letters_of(f->f, seen);
     letters_of(f->g, seen);
-    return __builtin_popcount(*seen);
+    return __builtin_popcountll(*seen);
 }
 
 static int put(uint8_t *bytes, int at, const formula *f)
@@ -234,7 +234,7 @@ static void encode(const sequent *s, question *q)
 static bool fits(const sequent *s, const size *z)
 {
     int connectives = 0, letters = 0;
-    uint32_t seen = 0;
+    uint64_t seen = 0;
     for (int side = 0; side < 2; side++)
         for (int i = 0; i < s->count[side]; i++) {
             connectives += connectives_of(s->side[side][i]);
@@ -390,12 +390,12 @@ question_set long_set(void)
     return set;
 }
 
-// The letters of a question renamed, in any order, to some of the 32.
-static void rename_letters(question *q)
+// The letters of a question, which are below the bound, renamed in any order to some of those below it.
+static void rename_letters(question *q, int bound)
 {
     reading r;
     uint8_t names[LETTERS] = { 0 };
-    for (int k = 0; k < LETTERS; k++) {
+    for (int k = 0; k < bound; k++) {
         int at = below(k + 1);
         names[k] = names[at];
         names[at] = k;
@@ -416,7 +416,7 @@ static uint64_t choose_by_states(question *q, int family, uint64_t least, uint64
         if (!fits(&s, z))
             continue;
         encode(&s, q);
-        rename_letters(q);
+        rename_letters(q, LETTERS_BEFORE);
         peer_levels_states(q->bytes, q->length, &none, 0, states);
         if (states[0] >= least && states[0] <= most)
             return states[0];
@@ -438,6 +438,37 @@ question_set states_set(void)
         set.refuted += states > 0;
     }
     return set;
+}
+
+int highest_letter(const question *q)
+{
+    reading r;
+    int highest = -1;
+    if (peer_read(q->bytes, q->length, &r))
+        return highest;
+    for (int i = 0; i < r.commands; i++)
+        if (q->bytes[r.command[i]] == LETTER && q->bytes[r.command[i] + 1] > highest)
+            highest = q->bytes[r.command[i] + 1];
+    return highest;
+}
+
+// Where the set has answers, the renamed questions get their own.
+question_set spread_of(const question_set *set, const char *title)
+{
+    question_set spread = set_of("spread", title, set->count);
+    seed = 64;
+    for (int i = 0; i < set->count; i++) {
+        question *q = &spread.questions[i];
+        *q = set->questions[i];
+        do
+            rename_letters(q, LETTERS);
+        while (highest_letter(q) < LETTERS_BEFORE);
+    }
+    if (set->reductions > 0)
+        answer_all(&spread);
+    spread.refuted = set->refuted;
+    spread.states = set->states;
+    return spread;
 }
 
 void write_bytes(FILE *file, const question *q)
