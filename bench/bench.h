@@ -5,6 +5,7 @@
 
 enum { EDITOR, LIMITS, CONDITIONS, SETS, DISTINCT_SETS = 2 };
 enum { CALLS = 5, MOST_IMPLEMENTATIONS = 16, MOST_LISTERS = 16, MOST_ROUNDS = 101 };
+enum { DAMAGES = LETTERS + 16 }; // a changed byte is below this: a command, a letter, or one too high
 
 // How many words of the answer, beside its number, must be the same as peer_value's.
 typedef enum { VERDICT = 1, STATE = 2, TREE = 4 } agreement;
@@ -13,6 +14,7 @@ typedef struct {
     const char *name, *note;
     decide *decide; // none for the LISP process
     agreement agrees;
+    int letters; // those it knows are below this
     int passes[SETS];
     double best[SETS], median[SETS]; // nanoseconds a question
 } implementation;
@@ -71,6 +73,7 @@ void check_listing(const results *r);
 void time_listing(results *r);
 
 // Writing and checking derivations of the theorems, by the library and by the archive before, if one is given.
+void check_derivations(void);
 void time_derivations(results *r);
 
 void write_table(FILE *file, const results *r);

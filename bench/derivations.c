@@ -72,6 +72,38 @@ static int theorems_of(const question_set *set, theorem *theorems)
     return count;
 }
 
+// Some cases worked out by hand. With number 0 the derivation is the one that is written; else its first command does not
+// pass.
+void check_derivations(void)
+{
+    static const struct {
+        question question;
+        uint8_t bytes[4];
+        size_t length;
+        uint32_t number;
+    } cases[] = {
+        { { { 0x10, 1, 1, 63, 0x20, 1, 1, 63 }, 8 }, { 0x41, 63 }, 2, 0 },
+        { { { 0x10, 0, 0x20, 1, 5, 1, 63, 1, 63 }, 9 }, { 0x65, 0, 0x41, 63 }, 4, 0 },
+        { { { 0x10, 2, 1, 63, 1, 37, 0x20, 2, 1, 37, 1, 63 }, 12 }, { 0x41, 37 }, 2, 0 },
+        { { { 0x10, 2, 1, 5, 1, 63, 0x20, 2, 1, 37, 1, 63 }, 12 }, { 0x41, 63 }, 2, 0 },
+        { { { 0x10, 2, 1, 5, 1, 63, 0x20, 2, 1, 37, 1, 63 }, 12 }, { 0x41, 5 }, 2, GEKUNDAY_CHECK_NOT_CLOSED },
+        { { { 0x10, 2, 1, 5, 1, 63, 0x20, 2, 1, 37, 1, 63 }, 12 }, { 0x41, 37 }, 2, GEKUNDAY_CHECK_NOT_CLOSED },
+        { { { 0x10, 1, 1, 5, 0x20, 1, 1, 5 }, 8 }, { 0x41, 5 + 64 }, 2, GEKUNDAY_CHECK_NOT_CLOSED },
+    };
+    for (size_t i = 0; i < sizeof cases / sizeof *cases; i++) {
+        const question *q = &cases[i].question;
+        uint64_t out[4] = { 0 };
+        if (gekunday_check(q->bytes, q->length, cases[i].bytes, cases[i].length, out) != cases[i].number || out[0])
+            refuse(q, "a derivation worked out by hand does not pass, or passes");
+        if (cases[i].number)
+            continue;
+        derivation d = written(q, gekunday_derive, gekunday_check);
+        if (d.length != cases[i].length || memcmp(d.bytes, cases[i].bytes, d.length))
+            refuse(q, "the derivation written is not the one worked out by hand");
+        free(d.bytes);
+    }
+}
+
 static void call(timed what, const theorem *t)
 {
     const question *q = t->question;

@@ -30,7 +30,8 @@ double now(void)
 
 static void add(results *r, const char *name, const char *note, decide *f, agreement agrees)
 {
-    r->implementations[r->count++] = (implementation){ .name = name, .note = note, .decide = f, .agrees = agrees };
+    r->implementations[r->count++] =
+        (implementation){ .name = name, .note = note, .decide = f, .agrees = agrees, .letters = LETTERS };
 }
 
 static void list_implementations(results *r, bool lisp)
@@ -38,6 +39,7 @@ static void list_implementations(results *r, bool lisp)
     add(r, "gekunday", "the library, proved", gekunday_decide, TREE);
 #ifdef WITH_BEFORE
     add(r, "before", "the archive in GEKUNDAY_BEFORE", before_decide, STATE);
+    r->implementations[r->count - 1].letters = LETTERS_BEFORE;
 #endif
     add(r, "peer_value (" CC_NAME ")", "C, sequent copied for each premise", peer_value_decide, TREE);
 #ifdef WITH_CLANG
@@ -79,16 +81,36 @@ static void disagree(const char *name, const question *q, uint64_t budget, uint3
     exit(1);
 }
 
+// Only what knows the question's letters is asked.
 static void agree(const implementation *m, const question *q, uint64_t budget, uint32_t due, const uint64_t due_out[4])
 {
     uint64_t out[4] = { 7, 7, 7, 7 };
+    if (m->letters < LETTERS && highest_letter(q) >= m->letters)
+        return;
     uint32_t number = m->decide(q->bytes, q->length, budget, out);
     if (number != due || memcmp(out, due_out, m->agrees * sizeof *out))
         disagree(m->name, q, budget, number, out, due, due_out);
 }
 
-// Holds the peers to the papers by some of document 01's cases and two more with equal formulas: where one is taken apart
-// before its equal comes to the other side, they do not close; where a third still stands beside it, that one does.
+// Each refuses the first letter that it does not know.
+static void check_letters(const results *r)
+{
+    static const uint64_t due[4] = { 3 };
+    for (int i = 0; i < r->count; i++) {
+        const implementation *m = &r->implementations[i];
+        question q = { { LEFT_SIDE, 1, LETTER, m->letters, RIGHT_SIDE, 0 }, 6 };
+        uint64_t out[4] = { 7, 7, 7, 7 };
+        if (!m->decide)
+            continue;
+        uint32_t number = m->decide(q.bytes, q.length, BUDGET, out);
+        if (number != NO_SUCH_LETTER || memcmp(out, due, sizeof out))
+            disagree(m->name, &q, BUDGET, number, out, NO_SUCH_LETTER, due);
+    }
+}
+
+// Holds the peers to the papers by some of document 01's cases, two more with equal formulas and some with high letters.
+// Where an equal formula is taken apart before its equal comes to the other side, they do not close; where a third still
+// stands beside it, that one does.
 static void check_cases(const results *r)
 {
     static const struct {
@@ -111,7 +133,12 @@ static void check_cases(const results *r)
         { { { 0x10, 1, 3, 1, 0, 1, 1, 0x20, 1, 3, 1, 0, 1, 1 }, 14 }, BUDGET, 0, { 0, 0, 0, 1 } },
         { { { 0x10, 1, 3, 1, 0, 1, 1, 0x20, 1, 2, 2, 3, 1, 0, 1, 1 }, 16 }, BUDGET, 0, { 0, 0, 4, 2 } },
         { { { 0x10, 0, 0x20, 3, 4, 1, 0, 1, 1, 2, 4, 1, 0, 1, 1, 4, 1, 0, 1, 1 }, 20 }, BUDGET, 0, { 0, 0, 2, 1 } },
-        { { { 0x10, 1, 1, 32, 0x20, 0 }, 6 }, BUDGET, NO_SUCH_LETTER, { 3, 0, 0, 0 } },
+        { { { 0x10, 1, 1, 64, 0x20, 0 }, 6 }, BUDGET, NO_SUCH_LETTER, { 3, 0, 0, 0 } },
+        { { { 0x10, 1, 1, 63, 0x20, 0 }, 6 }, BUDGET, 0, { 1, 1ull << 63, 0, 0 } },
+        { { { 0x10, 1, 1, 63, 0x20, 1, 1, 63 }, 8 }, BUDGET, 0, { 0, 0, 0, 1 } },
+        { { { 0x10, 1, 1, 5, 0x20, 1, 1, 37 }, 8 }, BUDGET, 0, { 1, 1ull << 5, 0, 0 } },
+        { { { 0x10, 1, 1, 37, 0x20, 1, 1, 5 }, 8 }, BUDGET, 0, { 1, 1ull << 37, 0, 0 } },
+        { { { 0x10, 1, 4, 1, 40, 1, 63, 0x20, 1, 1, 40 }, 11 }, BUDGET, 0, { 1, 1ull << 63, 1, 1 } },
         { { { 0x10, 17, 0x20, 0 }, 4 }, BUDGET, MANY_FORMULAS, { 1, 0, 0, 0 } },
         { { { 0 }, 0 }, BUDGET, CUT, { 0, 0, 0, 0 } },
     };
@@ -121,13 +148,37 @@ static void check_cases(const results *r)
                 agree(&r->implementations[i], &cases[k].question, cases[k].budget, cases[k].number, cases[k].out);
 }
 
+// As many letters and compounds as can stand more than once, 40 and 24: each formula stands twice on its side. All 48
+// connectives are reduced, and the 20 letters of the left are true.
+static void check_most_marks(const results *r)
+{
+    static const uint64_t due[4] = { 1, ~0ull << (LETTERS - 20), MOST_CONNECTIVES, 0 };
+    question q = { .length = 0 };
+    int letters = LETTERS;
+    for (int side = 0; side < 2; side++) {
+        q.bytes[q.length++] = side ? RIGHT_SIDE : LEFT_SIDE;
+        q.bytes[q.length++] = MOST_A_SIDE;
+        for (int i = 0; i < MOST_A_SIDE; i++) {
+            int connectives = 1 + i / 2 % 2;
+            for (int k = 0; k < connectives; k++)
+                q.bytes[q.length++] = side ? OR : AND;
+            for (int k = 1; k <= connectives + 1; k++)
+                q.bytes[q.length++] = LETTER, q.bytes[q.length++] = letters - k;
+            letters -= i % 2 ? connectives + 1 : 0;
+        }
+    }
+    for (int k = 0; k < r->count; k++)
+        if (r->implementations[k].agrees == TREE)
+            agree(&r->implementations[k], &q, BUDGET, 0, due);
+}
+
 // Each question with one byte changed: refusals, or another question.
 static void check_damaged(const results *r, const question_set *set)
 {
     for (int i = 0; i < set->count; i++) {
         question q = set->questions[i];
         uint64_t out[4];
-        q.bytes[i * 7 % q.length] = i * 37 % 48;
+        q.bytes[i * 7 % q.length] = i * 37 % DAMAGES;
         uint32_t number = peer_value_decide(q.bytes, q.length, 1000, out);
         uint64_t scanned[4] = { 0 };
         uint32_t refusal = peer_scan(q.bytes, q.length, scanned);
@@ -150,13 +201,10 @@ static void check_lisp(const question_set *set, int number)
     }
 }
 
-static void check_set(const results *r, int number)
+static void check_set(const results *r, const question_set *set)
 {
-    const question_set *set = &r->sets[number];
     for (int k = 0; k < r->count; k++) {
         const implementation *m = &r->implementations[k];
-        if (!m->decide)
-            check_lisp(set, number);
         for (int i = 0; m->decide && i < set->count; i++)
             agree(m, &set->questions[i], BUDGET, 0, set->answers[i]);
     }
@@ -171,6 +219,21 @@ static void check_set(const results *r, int number)
                 agree(&r->implementations[k], q, budget, SPENT, out);
     }
     check_damaged(r, set);
+}
+
+static void check_all(const results *r, bool lisp)
+{
+    check_letters(r);
+    check_cases(r);
+    check_most_marks(r);
+    for (int s = 0; s < SETS; s++) {
+        check_set(r, &r->sets[s]);
+        if (lisp)
+            check_lisp(&r->sets[s], s);
+    }
+    check_listing(r);
+    check_derivations();
+    printf("bench: all agree\n\n");
 }
 
 // Timing
@@ -309,11 +372,7 @@ int main(int count, char **arguments)
     bool lisp = lisp_start(out, r.sets, SETS);
     list_implementations(&r, lisp);
     add_listers(&r);
-    check_cases(&r);
-    for (int s = 0; s < SETS; s++)
-        check_set(&r, s);
-    check_listing(&r);
-    printf("bench: all agree\n\n");
+    check_all(&r, lisp);
     time_all(&r);
     for (int s = 0; s < DISTINCT_SETS; s++)
         time_distinct(&r.distincts[s], &r.distinct[s], r.rounds);

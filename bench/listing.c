@@ -41,7 +41,7 @@ void add_listers(results *r)
 typedef struct {
     uint32_t number;
     uint64_t word;
-    uint32_t states[MOST_STATES];
+    uint64_t states[MOST_STATES];
 } listing;
 
 static void ask(const lister *l, const question *q, size_t room, listing *a)
@@ -59,7 +59,8 @@ static void disagree(const char *name, const question *q, size_t room, const lis
         at++;
     fprintf(stderr, "bench: DISAGREEMENT of %s, room %zu: %u %llu, due %u %llu\n", name, room, given->number,
             (unsigned long long)given->word, due->number, (unsigned long long)due->word);
-    fprintf(stderr, "state at place %d: %08x, due %08x\nquestion:", at, given->states[at], due->states[at]);
+    fprintf(stderr, "state at place %d: %016llx, due %016llx\nquestion:", at, (unsigned long long)given->states[at],
+            (unsigned long long)due->states[at]);
     write_bytes(stderr, q);
     exit(1);
 }
@@ -91,16 +92,19 @@ static void check_cases(const results *r)
     static const struct {
         question question;
         size_t room;
-        uint32_t number, word, states[3];
+        uint32_t number, word;
+        uint64_t states[3];
     } cases[] = {
         { { { 0x10, 0, 0x20, 0 }, 4 }, 1, 0, 1, { 0 } },
         { { { 0x10, 0, 0x20, 0 }, 4 }, 0, NO_SPACE, 1, { 0 } },
         { { { 0x10, 1, 1, 0, 0x20, 1, 1, 0 }, 8 }, 0, 0, 0, { 0 } },
         { { { 0x10, 1, 4, 1, 0, 1, 1, 0x20, 1, 1, 0 }, 11 }, 1, 0, 1, { 2 } },
-        { { { 0x10, 1, 4, 1, 31, 1, 5, 0x20, 0 }, 9 }, 3, 0, 3, { 1u << 5, 1u << 31, 1u << 31 | 1u << 5 } },
-        { { { 0x10, 1, 4, 1, 31, 1, 5, 0x20, 0 }, 9 }, 2, NO_SPACE, 3, { 0 } },
-        { { { 0x10, 0, 0x20, 1, 6, 1, 9, 1, 7 }, 9 }, 9, 0, 2, { 1u << 7, 1u << 9 } },
-        { { { 0x10, 1, 1, 32, 0x20, 0 }, 6 }, 9, NO_SUCH_LETTER, 3, { 0 } },
+        { { { 0x10, 1, 4, 1, 63, 1, 5, 0x20, 0 }, 9 }, 3, 0, 3, { 1ull << 5, 1ull << 63, 1ull << 63 | 1ull << 5 } },
+        { { { 0x10, 1, 4, 1, 63, 1, 5, 0x20, 0 }, 9 }, 2, NO_SPACE, 3, { 0 } },
+        { { { 0x10, 0, 0x20, 1, 6, 1, 9, 1, 7 }, 9 }, 9, 0, 2, { 1ull << 7, 1ull << 9 } },
+        { { { 0x10, 0, 0x20, 1, 6, 1, 39, 1, 7 }, 9 }, 9, 0, 2, { 1ull << 7, 1ull << 39 } },
+        { { { 0x10, 2, 1, 62, 1, 33, 0x20, 1, 1, 48 }, 10 }, 1, 0, 1, { 1ull << 62 | 1ull << 33 } },
+        { { { 0x10, 1, 1, 64, 0x20, 0 }, 6 }, 9, NO_SUCH_LETTER, 3, { 0 } },
         { { { 0 }, 0 }, 9, CUT, 0, { 0 } },
     };
     static listing due;
@@ -115,23 +119,41 @@ static void check_cases(const results *r)
     }
 }
 
-// The letters 0 to count - 1 on the right: false only where all are.
-static void check_letters(const results *r, int count)
+// A side of letters from the first on, joined to one formula as far as there are connectives, the rest a formula each.
+static void put_letters(question *q, int connective, int first, int count)
+{
+    int joined = count <= MOST_CONNECTIVES ? count : MOST_CONNECTIVES + 1;
+    q->bytes[q->length++] = count - joined + 1;
+    for (int k = 0; k < count; k++) {
+        if (k + 1 < joined)
+            q->bytes[q->length++] = connective;
+        q->bytes[q->length++] = LETTER, q->bytes[q->length++] = first + k;
+    }
+}
+
+static void check_letters(const results *r, const question *q, int count, uint64_t state)
 {
     static listing due;
-    question q = { { LEFT_SIDE, 0, RIGHT_SIDE, 1 }, 4 };
-    for (int k = 0; k < count; k++) {
-        if (k + 1 < count)
-            q.bytes[q.length++] = OR;
-        q.bytes[q.length++] = LETTER, q.bytes[q.length++] = k;
-    }
     memset(&due, FILL, sizeof due);
     due.number = count > MOST_VARIED ? MANY_LETTERS : 0;
     due.word = count > MOST_VARIED ? count : 1;
     if (due.number == 0)
-        due.states[0] = 0;
+        due.states[0] = state;
     for (int k = 0; k < r->listers_count; k++)
-        compare(&r->listers[k], &q, MOST_STATES, &due);
+        compare(&r->listers[k], q, MOST_STATES, &due);
+}
+
+// So many lowest letters on the right: false only where all are. The highest on the left: false only where all are true.
+static void check_counts(const results *r)
+{
+    for (int count = 1; count <= LETTERS; count++) {
+        question low = { { LEFT_SIDE, 0, RIGHT_SIDE }, 3 }, high = { { LEFT_SIDE }, 1 };
+        put_letters(&low, OR, 0, count);
+        check_letters(r, &low, count, 0);
+        put_letters(&high, AND, LETTERS - count, count);
+        high.bytes[high.length++] = RIGHT_SIDE, high.bytes[high.length++] = 0;
+        check_letters(r, &high, count, ~0ull << (LETTERS - count));
+    }
 }
 
 // Each question of a set, with one byte changed, and every fifth with just the room it needs and one less.
@@ -144,7 +166,7 @@ static void check_set(const results *r, const question_set *set)
             agree(r, &q, states);
             agree(r, &q, states - 1);
         }
-        q.bytes[i * 7 % q.length] = i * 37 % 48;
+        q.bytes[i * 7 % q.length] = i * 37 % DAMAGES;
         agree(r, &q, MOST_STATES);
     }
 }
@@ -152,8 +174,7 @@ static void check_set(const results *r, const question_set *set)
 void check_listing(const results *r)
 {
     check_cases(r);
-    for (int count = 1; count <= LETTERS; count++)
-        check_letters(r, count);
+    check_counts(r);
     for (int s = 0; s < SETS; s++)
         check_set(r, &r->sets[s]);
     check_set(r, &r->listed);
@@ -163,7 +184,7 @@ void check_listing(const results *r)
 
 static double pass(const results *r, const lister *l, int times)
 {
-    static uint32_t states[MOST_STATES];
+    static uint64_t states[MOST_STATES];
     const question_set *set = &r->listed;
     double start = now();
     while (times-- > 0)

@@ -17,8 +17,8 @@ typedef struct {
     const uint8_t *question;
     uint8_t second[MOST_BYTES];
     uint64_t mark[MOST_BYTES];
-    uint64_t budget, reductions, closings;
-    uint32_t number, state;
+    uint64_t budget, reductions, closings, state;
+    uint32_t number;
     bool refuted;
 } run;
 
@@ -176,10 +176,12 @@ static inline bool two_premises(uint8_t connective, int side)
     return connective == EQUIV || connective == (side ? AND : OR) || (connective == IMPLIES && !side);
 }
 
-static bool open_sequent(run *r, uint32_t state)
+// All formulas are letters; those on the left are true.
+static bool open_sequent(run *r, const sequent *s)
 {
     r->refuted = true;
-    r->state = state;
+    for (int i = 0; i < s->left; i++)
+        r->state |= 1ull << r->question[s->items[i] + 1];
     return false;
 }
 
@@ -209,7 +211,7 @@ static bool prove_value(run *r, const sequent *s)
     if (side)
         at = first_compound_right(r, s, 0);
     if (side && at == s->right)
-        return open_sequent(r, s->marks[0]);
+        return open_sequent(r, s);
     uint8_t x = s->items[side ? MOST_FORMULAS - 1 - at : at], connective = r->question[x];
     if (!may_reduce(r, s, connective, side))
         return false;
@@ -238,7 +240,7 @@ static bool prove_best(run *r, sequent *s)
         if (side)
             at = s->right_letters_to = first_compound_right(r, s, s->right_letters_to);
         if (side && at == s->right)
-            return open_sequent(r, s->marks[0]);
+            return open_sequent(r, s);
         uint8_t x = s->items[side ? MOST_FORMULAS - 1 - at : at], connective = r->question[x];
         if (!may_reduce(r, s, connective, side))
             return false;

@@ -7,19 +7,21 @@
 extern "C" {
 #endif
 
-enum { MOST_BYTES = 212, MOST_CONNECTIVES = 48, MOST_A_SIDE = 16, MOST_FORMULAS = 80, LETTERS = 32 };
-enum { MOST_SHARED = MOST_CONNECTIVES / 2 }; // compounds that stand more than once
+enum { MOST_BYTES = 212, MOST_CONNECTIVES = 48, MOST_A_SIDE = 16, MOST_FORMULAS = 80, LETTERS = 64 };
+enum { MOST_AGAIN = (MOST_CONNECTIVES + 2 * MOST_A_SIDE) / 2 }; // letters that stand more than once, of 80 places
+enum { MOST_SHARED = MOST_CONNECTIVES / 2 };                    // compounds that stand more than once
 enum { MOST_VARIED = 16, MOST_STATES = 1 << MOST_VARIED };
 enum { LEFT_SIDE = 0x10, RIGHT_SIDE = 0x20, LETTER = 1, NOT = 2, AND = 3, OR = 4, IMPLIES = 5, EQUIV = 6 };
 enum { TOO_LONG = 1, CUT, WRONG_COMMAND, MANY_FORMULAS, NO_SUCH_LETTER, MANY_CONNECTIVES, LEFT_OVER, FULL, SPENT };
 enum { NO_SPACE = 11, MANY_LETTERS };
 
-// A question as read: where its commands and the formulas of each side start.
+// A question as read: where its commands and the formulas of each side start, and which letters stand more than once.
 typedef struct {
     uint32_t number, place; // the refusal, 0 for none
     uint8_t commands, connectives, formulas[2];
     uint8_t starts[2][MOST_A_SIDE];
     uint8_t command[MOST_BYTES];
+    uint64_t again; // bit k for letter k
 } reading;
 
 // Document 01's reader. The answer is the refusal's number.
@@ -31,9 +33,10 @@ uint32_t peer_scan(const uint8_t *question, size_t length, uint64_t out[2]);
 // The start of the second part of each connective with two parts.
 void second_parts(const uint8_t *question, const reading *r, uint8_t second[MOST_BYTES]);
 
-// The same, and each formula's mark, one bit, the same for equal formulas: a letter has its own, and so has each compound
-// that stands more than once in the question, from LETTERS on. A compound that stands once has none. The answer is how many
-// compounds have one, equal ones counted once.
+// The same, and each formula's mark, one bit, the same for equal formulas. Each letter that stands more than once in the
+// question has its own, and so has each compound that does; what stands once has none, since it cannot come to both sides.
+// So one word holds them all: its first MOST_AGAIN bits are for letters, the MOST_SHARED bits behind them for compounds. The
+// answer is how many compounds have one, equal ones counted once.
 uint32_t parts_and_marks(const uint8_t *question, const reading *r, uint8_t second[MOST_BYTES], uint64_t mark[MOST_BYTES]);
 
 // The truth table's program, and the states of a word in which the sequent is false.
@@ -54,7 +57,7 @@ enum { ONLY_LETTERS = MOST_CONNECTIVES + 1 };
 uint32_t peer_sets_closing(const uint8_t *question, size_t length, uint64_t budget, int least, uint64_t out[4]);
 
 // As gekunday_states.
-typedef uint32_t list_states(const uint8_t *question, size_t length, uint32_t *states, size_t room, uint64_t out[1]);
+typedef uint32_t list_states(const uint8_t *question, size_t length, uint64_t *states, size_t room, uint64_t out[1]);
 list_states peer_each_states, peer_table_states, peer_words_states, peer_levels_states;
 
 #ifdef __cplusplus

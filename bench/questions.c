@@ -409,8 +409,7 @@ static void rename_letters(question *q, int bound)
 // One question that is false in so many states. With room for none, a peer counts them.
 static uint64_t choose_by_states(question *q, int family, uint64_t least, uint64_t most, const size *z)
 {
-    uint32_t none;
-    uint64_t states[1];
+    uint64_t none, states[1];
     for (;;) {
         sequent s = proposal(family, z);
         if (!fits(&s, z))

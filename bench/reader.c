@@ -5,6 +5,7 @@
 typedef struct {
     const uint8_t *bytes;
     uint32_t length, at, number;
+    uint64_t letters, again; // those read so far, and those read more than once
 } cursor;
 
 static int refuse(cursor *c, uint32_t number, uint32_t place)
@@ -49,6 +50,9 @@ static int read_side(cursor *c, int side, reading *r)
                 return refuse(c, CUT, c->length);
             if (c->bytes[c->at + 1] >= LETTERS)
                 return refuse(c, NO_SUCH_LETTER, c->at + 1);
+            uint64_t letter = 1ull << c->bytes[c->at + 1];
+            c->again |= c->letters & letter;
+            c->letters |= letter;
             c->at += 2;
             due--;
         } else if (command >= NOT && command <= EQUIV) {
@@ -71,10 +75,11 @@ uint32_t peer_read(const uint8_t *question, size_t length, reading *r)
     r->commands = r->connectives = 0;
     if (length > MOST_BYTES)
         return TOO_LONG;
-    cursor c = { question, length, 0, 0 };
+    cursor c = { question, length, 0, 0, 0, 0 };
     if (read_side(&c, 0, r) && read_side(&c, 1, r) && c.at != length)
         refuse(&c, LEFT_OVER, c.at);
     r->place = c.at;
+    r->again = c.again;
     return r->number = c.number;
 }
 
@@ -163,10 +168,31 @@ static inline uint32_t number_of(compounds *c, uint32_t node, uint8_t at)
     return c->count;
 }
 
+_Static_assert(MOST_AGAIN + MOST_SHARED <= 64, "the marks of 40 letters and 24 compounds fit one word");
+
+// The letters met so far. Those that stand more than once are numbered from 0 on as they are met.
+typedef struct {
+    uint64_t met;
+    uint8_t number[LETTERS];
+    uint32_t count;
+} letters;
+
+// The letter's mark. There is no branch: which letters stand more than once is hard to foretell.
+static inline uint64_t mark_of(letters *l, uint8_t letter, uint64_t again)
+{
+    uint32_t first = ~l->met >> letter & 1;
+    uint64_t marked = again >> letter & 1;
+    l->number[letter] |= -first & l->count;
+    l->count += first & marked;
+    l->met |= 1ull << letter;
+    return marked << l->number[letter];
+}
+
 // As second_parts, with the names of the formulas that wait: a letter's own number, or LETTERS and a compound's number.
 uint32_t parts_and_marks(const uint8_t *question, const reading *r, uint8_t second[MOST_BYTES], uint64_t mark[MOST_BYTES])
 {
     compounds c;
+    letters l = { 0 };
     uint8_t starts[MOST_BYTES], names[MOST_BYTES];
     uint32_t top = 0, shared = 0;
     memset(c.slot, 0, sizeof c.slot);
@@ -176,7 +202,7 @@ uint32_t parts_and_marks(const uint8_t *question, const reading *r, uint8_t seco
         if (command == LETTER) {
             starts[top] = at;
             names[top++] = question[at + 1];
-            mark[at] = 1ull << question[at + 1];
+            mark[at] = mark_of(&l, question[at + 1], r->again);
             continue;
         }
         uint32_t node = command | names[top - 1] << 8;
@@ -188,7 +214,7 @@ uint32_t parts_and_marks(const uint8_t *question, const reading *r, uint8_t seco
         uint32_t number = number_of(&c, node, at);
         uint8_t first = c.first[number];
         if (first != at && !mark[first])
-            mark[first] = 1ull << (LETTERS + shared++);
+            mark[first] = 1ull << (MOST_AGAIN + shared++);
         mark[at] = first == at ? 0 : mark[first];
         starts[top - 1] = at;
         names[top - 1] = LETTERS + number;

@@ -6,19 +6,20 @@
 // keep their side take their formula's place, and a formula comes to the left only while no compound is there, one at a
 // time. So the left is a set of 64 bits whose lowest is due. The right is such a set too, what is left of its first
 // formula, and after it a queue. A premise writes only behind the queue's end, so what waits for its turn stays as it was.
-// Beside them each side has the marks of the letters and compounds that stand on it.
+// Beside them each side has the marks of the letters and compounds that stand on it, and the left its letters.
 #include "peer.h"
 #include <stdbool.h>
 #include <string.h>
 
 typedef struct {
     uint64_t left, first;       // compound formulas: of the left, and of the right before the queue
+    uint64_t letters;           // of the left: the state, if the sequent is open
     uint64_t marks[2];          // of the formulas that stand on each side; it closes where they meet
     uint8_t from, to, formulas; // the queue's bounds, and all formulas, letters too
 } sequent;
 
 typedef struct {
-    uint64_t left, first;
+    uint64_t left, first, letters;
     uint64_t marks[2];
     uint8_t behind[2], count; // to the queue
 } placements;
@@ -48,14 +49,16 @@ enum { TO_LEFT, TO_RIGHT, TO_END };
 static inline void put(const tables *t, placements *p, uint8_t f, int where)
 {
     p->marks[where != TO_LEFT] |= t->mark[f];
-    if (t->question[f] == LETTER)
-        return;
-    if (where == TO_LEFT)
+    if (t->question[f] == LETTER) {
+        if (where == TO_LEFT)
+            p->letters |= 1ull << t->question[f + 1];
+    } else if (where == TO_LEFT) {
         p->left |= 1ull << t->number[f];
-    else if (where == TO_RIGHT)
+    } else if (where == TO_RIGHT) {
         p->first |= 1ull << t->number[f];
-    else
+    } else {
         p->behind[p->count++] = t->number[f];
+    }
 }
 
 static inline void begin(rule *x, uint64_t mark)
@@ -105,6 +108,7 @@ static inline sequent placed(tables *t, sequent s, const placements *p)
 {
     s.left |= p->left;
     s.first |= p->first;
+    s.letters |= p->letters;
     s.marks[0] |= p->marks[0];
     s.marks[1] |= p->marks[1];
     t->queue[s.to] = p->behind[0];
@@ -114,7 +118,10 @@ static inline sequent placed(tables *t, sequent s, const placements *p)
 }
 
 // The connectives that have the mark of the formula reduced.
-static inline uint64_t equal_to(const tables *t, const rule *due) { return t->equal[__builtin_ctzll(due->mark) - LETTERS]; }
+static inline uint64_t equal_to(const tables *t, const rule *due)
+{
+    return t->equal[__builtin_ctzll(due->mark) - MOST_AGAIN];
+}
 
 // Whether one of these connectives is in the queue.
 static bool queued(const tables *t, int from, int to, uint64_t connectives)
@@ -165,7 +172,7 @@ static uint32_t prove(tables *t, sequent s, uint64_t budget, uint64_t out[4])
         }
         const rule *due = due_rule(t, &s);
         if (!due) {
-            out[0] = 1, out[1] = s.marks[0];
+            out[0] = 1, out[1] = s.letters;
             break;
         }
         s.formulas += due->grows;
@@ -219,7 +226,7 @@ static inline void number_connectives(tables *t, const reading *read, int least)
         if (least > 0 && t->mark[at] && connectives_at(t->question, at) < least)
             t->mark[at] = 0;
         if (t->mark[at])
-            t->equal[__builtin_ctzll(t->mark[at]) - LETTERS] |= 1ull << n;
+            t->equal[__builtin_ctzll(t->mark[at]) - MOST_AGAIN] |= 1ull << n;
         t->number[at] = n++;
     }
 }

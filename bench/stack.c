@@ -15,7 +15,7 @@ typedef struct {
     call call;
     const question *question;
     uint8_t *stack, *buffer;
-    uint32_t *states;
+    uint64_t *states;
     size_t length, depth;
 } probe;
 
@@ -140,7 +140,7 @@ void probe_stacks(results *r, const question_set *longest)
     const question_set *listed = &r->listed;
     stack_use *stacks = r->stacks;
     probe p = { .stack = mmap(0, STACK, PROT_READ | PROT_WRITE, MAP_PRIVATE | MAP_ANONYMOUS, -1, 0),
-                .buffer = malloc(ROOM), .states = malloc(MOST_STATES * sizeof(uint32_t)) };
+                .buffer = malloc(ROOM), .states = malloc(MOST_STATES * sizeof(uint64_t)) };
     for (int i = 0; i < CALLS; i++)
         stacks[i] = (stack_use){ .call = names[i] };
     for (int connective = NOT; connective <= EQUIV; connective++)
