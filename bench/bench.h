@@ -28,6 +28,11 @@ typedef struct {
 } lister;
 
 typedef struct {
+    const question_set *set;
+    double ours, before; // nanoseconds a question
+} listing_time;
+
+typedef struct {
     const char *set;
     double ours, peer; // nanoseconds a question
 } reading_time;
@@ -54,9 +59,10 @@ typedef struct {
     question_set sets[SETS];
     implementation implementations[MOST_IMPLEMENTATIONS]; // the first is the library under test
     int count, rounds;
-    question_set listed;
-    lister listers[MOST_LISTERS]; // the first is the library under test
+    question_set listed, listed_before; // the same questions, in the second with letters below LETTERS_BEFORE
+    lister listers[MOST_LISTERS];       // the first is the library under test
     int listers_count;
+    listing_time listing_before;          // on listed_before
     question_set distinct[DISTINCT_SETS]; // those of the first two sets without equal compounds
     distinct_time distincts[DISTINCT_SETS];
     reading_time readings[SETS + 1];
@@ -67,10 +73,12 @@ typedef struct {
 double now(void); // nanoseconds
 void sum_up(double *samples, int count, double *best, double *median);
 
-// Listing states: who takes part, whether all agree (the run stops if not), and how long they take.
+// Listing states: who takes part, whether all agree (the run stops if not), and how long they take; then the library beside
+// the archive before, if one is given.
 void add_listers(results *r);
 void check_listing(const results *r);
 void time_listing(results *r);
+void time_listing_before(results *r);
 
 // Writing and checking derivations of the theorems, by the library and by the archive before, if one is given.
 void check_derivations(void);

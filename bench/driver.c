@@ -356,7 +356,8 @@ static void make_sets(results *r)
     r->sets[CONDITIONS] = conditions_set();
     r->distinct[EDITOR] = distinct_of(&r->sets[EDITOR], "Editor-size, no equal compounds");
     r->distinct[LIMITS] = distinct_of(&r->sets[LIMITS], "Near the limits, no equal compounds");
-    r->listed = states_set();
+    r->listed_before = states_set();
+    r->listed = spread_of(&r->listed_before, "Questions with 16 letters");
 }
 
 int main(int count, char **arguments)
@@ -381,6 +382,7 @@ int main(int count, char **arguments)
     time_reading(&r.readings[SETS], &longest, r.rounds);
     time_derivations(&r);
     time_listing(&r);
+    time_listing_before(&r);
     probe_stacks(&r, &longest);
     FILE *table = open_out(out, "table.md"), *plot = open_out(out, "plot.svg");
     write_table(table, &r);

@@ -85,6 +85,22 @@ static void write_listing(FILE *file, const results *r)
     fprintf(file, "\n");
 }
 
+// The list beside that of the archive before.
+static void write_listing_before(FILE *file, const results *r)
+{
+#ifdef WITH_BEFORE
+    const listing_time *t = &r->listing_before;
+    char ours[32], before[32];
+    format_time(ours, sizeof ours, t->ours);
+    format_time(before, sizeof before, t->before);
+    fprintf(file, "| questions | gekunday | before | gekunday / before |\n|---|---:|---:|---:|\n");
+    fprintf(file, "| The same, letters below %d (%d) | %s | %s | %.2f |\n\n", LETTERS_BEFORE, t->set->count, ours, before,
+            t->ours / t->before);
+#else
+    (void)file, (void)r;
+#endif
+}
+
 static void write_distinct(FILE *file, const results *r)
 {
     fprintf(file, "## Without equal compounds\n\n");
@@ -162,6 +178,7 @@ void write_table(FILE *file, const results *r)
         write_set(file, r, s);
     write_distinct(file, r);
     write_listing(file, r);
+    write_listing_before(file, r);
     write_readings(file, r);
     write_derivations(file, r);
     fprintf(file, "\n## Stack\n\n| call | greatest depth | questions tried |\n|---|---:|---:|\n");
