@@ -43,6 +43,11 @@ typedef struct {
 } distinct_time;
 
 typedef struct {
+    const question_set *set;
+    double ours, peer, low; // nanoseconds a question; low is ours with the letters that the questions had
+} spread_time;
+
+typedef struct {
     const char *set;
     int theorems;
     double decide, derive, check; // nanoseconds a theorem
@@ -65,6 +70,8 @@ typedef struct {
     listing_time listing_before;          // on listed_before
     question_set distinct[DISTINCT_SETS]; // those of the first two sets without equal compounds
     distinct_time distincts[DISTINCT_SETS];
+    question_set spread; // those of the first set with letters over all LETTERS
+    spread_time spread_time;
     reading_time readings[SETS + 1];
     derivation_time derivations[SETS + DISTINCT_SETS];
     stack_use stacks[CALLS];
@@ -81,7 +88,7 @@ void time_listing(results *r);
 void time_listing_before(results *r);
 
 // Writing and checking derivations of the theorems, by the library and by the archive before, if one is given.
-void check_derivations(void);
+void check_derivations(const results *r);
 void time_derivations(results *r);
 
 void write_table(FILE *file, const results *r);

@@ -74,7 +74,7 @@ static int theorems_of(const question_set *set, theorem *theorems)
 
 // Some cases worked out by hand. With number 0 the derivation is the one that is written; else its first command does not
 // pass.
-void check_derivations(void)
+static void check_cases(void)
 {
     static const struct {
         question question;
@@ -102,6 +102,15 @@ void check_derivations(void)
             refuse(q, "the derivation written is not the one worked out by hand");
         free(d.bytes);
     }
+}
+
+// Theorems of the sets are written and checked when they are timed; those with letters over all LETTERS here.
+void check_derivations(const results *r)
+{
+    check_cases();
+    for (int i = 0; i < r->spread.count; i++)
+        if (!r->spread.answers[i][0])
+            free(written(&r->spread.questions[i], gekunday_derive, gekunday_check).bytes);
 }
 
 static void call(timed what, const theorem *t)

@@ -221,6 +221,20 @@ static void check_set(const results *r, const question_set *set)
     check_damaged(r, set);
 }
 
+// Other letters change neither verdict nor counts.
+static void check_spread(const results *r)
+{
+    const question_set *spread = &r->spread, *plain = &r->sets[EDITOR];
+    for (int i = 0; i < spread->count; i++) {
+        uint64_t due[4];
+        memcpy(due, plain->answers[i], sizeof due);
+        due[1] = spread->answers[i][1];
+        if (memcmp(spread->answers[i], due, sizeof due))
+            disagree("peer_value", &spread->questions[i], BUDGET, 0, spread->answers[i], 0, due);
+    }
+    check_set(r, spread);
+}
+
 static void check_all(const results *r, bool lisp)
 {
     check_letters(r);
@@ -231,8 +245,9 @@ static void check_all(const results *r, bool lisp)
         if (lisp)
             check_lisp(&r->sets[s], s);
     }
+    check_spread(r);
     check_listing(r);
-    check_derivations();
+    check_derivations(r);
     printf("bench: all agree\n\n");
 }
 
@@ -311,6 +326,20 @@ static void time_distinct(distinct_time *t, const question_set *set, int rounds)
     }
 }
 
+// The library and peer_value on questions with letters over all LETTERS, and the library on them with the letters they had.
+// A peer's turn lies between the library's two: right behind the first the second is faster, with the same letters too.
+static void time_spread(spread_time *t, const question_set *set, const question_set *low, int rounds)
+{
+    int times = 1 + 20e6 / decide_pass(peer_value_decide, set, 1);
+    *t = (spread_time){ set, 1e18, 1e18, 1e18 };
+    for (int round = 0; round < rounds; round++) {
+        t->ours = lesser(t->ours, decide_pass(gekunday_decide, set, times) / times / set->count);
+        t->peer = lesser(t->peer, decide_pass(peer_value_decide, set, times) / times / set->count);
+        t->low = lesser(t->low, decide_pass(gekunday_decide, low, times) / times / low->count);
+        t->peer = lesser(t->peer, decide_pass(peer_value_decide_clang, set, times) / times / set->count);
+    }
+}
+
 // No formula stands at place 99, so this reads the whole question and hands out nothing.
 static uint32_t read_whole(const uint8_t *question, size_t length, uint64_t out[2])
 {
@@ -356,6 +385,7 @@ static void make_sets(results *r)
     r->sets[CONDITIONS] = conditions_set();
     r->distinct[EDITOR] = distinct_of(&r->sets[EDITOR], "Editor-size, no equal compounds");
     r->distinct[LIMITS] = distinct_of(&r->sets[LIMITS], "Near the limits, no equal compounds");
+    r->spread = spread_of(&r->sets[EDITOR], "Editor-size, letters renamed");
     r->listed_before = states_set();
     r->listed = spread_of(&r->listed_before, "Questions with 16 letters");
 }
@@ -377,6 +407,7 @@ int main(int count, char **arguments)
     time_all(&r);
     for (int s = 0; s < DISTINCT_SETS; s++)
         time_distinct(&r.distincts[s], &r.distinct[s], r.rounds);
+    time_spread(&r.spread_time, &r.spread, &r.sets[EDITOR], r.rounds);
     for (int s = 0; s < SETS; s++)
         time_reading(&r.readings[s], &r.sets[s], r.rounds);
     time_reading(&r.readings[SETS], &longest, r.rounds);

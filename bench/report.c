@@ -101,6 +101,19 @@ static void write_listing_before(FILE *file, const results *r)
 #endif
 }
 
+static void write_spread(FILE *file, const results *r)
+{
+    const spread_time *t = &r->spread_time;
+    char ours[32], peer[32], low[32];
+    format_time(ours, sizeof ours, t->ours);
+    format_time(peer, sizeof peer, t->peer);
+    format_time(low, sizeof low, t->low);
+    fprintf(file, "## Letters over all %d\n\n| questions | gekunday | peer_value, faster build | ", LETTERS);
+    fprintf(file, "gekunday / peer_value | gekunday, low letters | high / low |\n|---|---:|---:|---:|---:|---:|\n");
+    fprintf(file, "| %s (%d) | %s | %s | %.2f | %s | %.2f |\n\n", t->set->title, t->set->count, ours, peer,
+            t->ours / t->peer, low, t->ours / t->low);
+}
+
 static void write_distinct(FILE *file, const results *r)
 {
     fprintf(file, "## Without equal compounds\n\n");
@@ -177,6 +190,7 @@ void write_table(FILE *file, const results *r)
     for (int s = 0; s < SETS; s++)
         write_set(file, r, s);
     write_distinct(file, r);
+    write_spread(file, r);
     write_listing(file, r);
     write_listing_before(file, r);
     write_readings(file, r);
