@@ -175,7 +175,7 @@ fn run(nodes: &[u32; 48], items: &[u8; 80], s: Running, from: usize, left: u64) 
     }
 }
 
-// The same kind, put together anew: a copy would read it whole right after it was stored in parts, which takes longer.
+// The same kind, put together anew: a copy takes the unused bytes between its mark and its state along, which takes longer.
 fn same(kind: Kind) -> Kind
     ensures { λ r. ⌜ r ≡ kind ⌝ }
 {
