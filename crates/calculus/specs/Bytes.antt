@@ -131,6 +131,7 @@ pub record WithinUnder (L : Limits) (S : Sequent) : Type 0 where
   pub letters-left : Each (LetteredUnder (L .letters)) (S .on-left)
   pub letters-right : Each (LetteredUnder (L .letters)) (S .on-right)
 
+-- its letters are among all there are
 abbrev pub Lettered : Formula → Type 0
 Lettered = LetteredUnder (LIMITS .letters)
 

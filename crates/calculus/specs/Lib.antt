@@ -1,4 +1,4 @@
--- The definitions, in document 01's order; `States` is of document 02.
+-- The definitions, in document 01's order; `States` and `Standard` are of document 02.
 pub mod Limits
 pub mod Fold
 pub mod Syntax
@@ -10,6 +10,7 @@ pub mod Tree
 pub mod Width
 pub mod Derivation
 pub mod States
+pub mod Standard
 pub mod Reply
 pub mod Starred
 pub mod Numbers

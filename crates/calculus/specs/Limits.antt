@@ -34,6 +34,7 @@ pub record Limits : Type 0 where
   pub connectives : ℕ
   pub letters : ℕ
 
+-- document 01's, as the requests have them
 abbrev pub LIMITS : Limits
 LIMITS = record { longest = LONGEST; formulas = FORMULAS; connectives = CONNECTIVES; letters = LETTERS }
 

@@ -20,6 +20,7 @@ use Rattle.calculus.specs.Tree.{verdict}
 use Rattle.calculus.specs.Width.{W}
 use Rattle.calculus.specs.Derivation.{derivation, Checked, passes, faulty, checking}
 use Rattle.calculus.specs.States.{lettersUnder, refutingOver}
+use Rattle.calculus.specs.Standard.{spelling}
 
 -- the table's number, 0 where there is none, and what is returned beside it
 pub record Reply : Type 0 where
@@ -145,6 +146,14 @@ listUnder L q old =
 abbrev pub listStates : List ℕ → List ℕ → Written
 listStates = listUnder LIMITS
 
+-- ---- writing the standard spelling: "11 with the length needed if that buffer is too short, after the reading refusals"
+
+abbrev pub spellUnder : Limits → List ℕ → List ℕ → Written
+spellUnder L q old = ifReadOut (readingUnder L q) old (fillOut (spelling (question q)) [] old)
+
+abbrev pub spell : List ℕ → List ℕ → Written
+spell = spellUnder LIMITS
+
 -- ---- wider limits
 
 -- "questions that were accepted have the same verdict and counts" (document 02, d): what each call answers under M is what it
@@ -157,5 +166,6 @@ pub record Kept (L M : Limits) (q : List ℕ) : Type 0 where
   pub derives : (b : ℕ) (old : List ℕ) → deriveUnder M q b old ≡ deriveUnder L q b old
   pub checks : (ds : List ℕ) → checkUnder M q ds ≡ checkUnder L q ds
   pub lists : (old : List ℕ) → listUnder M q old ≡ listUnder L q old
+  pub spells : (old : List ℕ) → spellUnder M q old ≡ spellUnder L q old
   pub state : (b σ : ℕ) → verdict b (question q) .kind ≡ Refuted σ → σ < 2 ^ L .letters
   pub states : Each (λ σ. σ < 2 ^ L .letters) (refutingOver (lettersUnder (M .letters) (question q)) (question q))

@@ -61,6 +61,13 @@ pub struct Part {
     pub count: usize,
 }
 
+// How the bytes of one formula stand to those of another.
+pub enum Comparison {
+    Less,
+    Equal,
+    Greater,
+}
+
 pub fn wide(b: u8) -> usize
     ensures { λ r. ⌜ r ≡ b ⌝ }
 {
