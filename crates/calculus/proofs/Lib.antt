@@ -11,6 +11,7 @@ pub mod Spelling
 pub mod Readings
 pub mod Lists
 pub mod Buffers
+pub mod Standard
 pub mod Letters
 pub mod States
 pub mod Refutations
