@@ -94,7 +94,7 @@ pub enum Step {
 }
 
 // The command byte of a side.
-fn head_of(side: Side) -> u8
+pub fn head_of(side: Side) -> u8
     ensures { λ r. ⌜ r ≡ code (SIDE side) ⌝ }
 {
     match side {
@@ -268,20 +268,31 @@ pub fn read(q: &[u8]) -> Reading
     Reading::Accepted
 }
 
-fn command_length(b: u8) -> usize
-    ensures { λ r. ⌜ r ≡ commandLength b ⌝ }
-{
-    if b == 1 { 2 } else { 1 }
+// A walk over commands: the position of the next, and the formulas due from there on.
+pub struct Walk {
+    pub at: usize,
+    pub due: usize,
 }
 
-fn due_after(d: usize, b: u8) -> usize
-    requires { ⌜ (1 ≤ d) × (d < 2 ^ 63) ⌝ }
-    ensures { λ r. ⌜ r ≡ dueAfter d b ⌝ }
+// The walk past the command b.
+fn passed(w: Walk, b: u8) -> Walk
+    requires { ⌜ (1 ≤ w .due) × (w .due < 2 ^ 63) × (w .at < 2 ^ 63) ⌝ }
+    ensures { λ r. ⌜ (r .at ≡ w .at + commandLength b) × (r .due ≡ dueAfter (w .due) b) ⌝ }
 {
-    if b == 1 {
-        return d - 1;
+    match b {
+        1 => Walk {
+            at: w.at + 2,
+            due: w.due - 1,
+        },
+        2 => Walk {
+            at: w.at + 1,
+            due: w.due,
+        },
+        _ => Walk {
+            at: w.at + 1,
+            due: w.due + 1,
+        },
     }
-    if b == 2 { d } else { d + 1 }
 }
 
 // The position behind n formulas that stand one after the other from a position on.
@@ -289,14 +300,12 @@ pub fn skip(q: &[u8], at: usize, n: usize) -> usize
     requires { ⌜ n ≤ length (formulas (drop at (now q))) ⌝ }
     ensures { λ r. ⌜ r ≡ at + bytesAll (take n (formulas (drop at (now (q .entry))))) ⌝ }
 {
-    let mut i = at;
-    let mut due = n;
-    while 0 < due {
-        let b = q[i];
-        i += command_length(b);
-        due = due_after(due, b);
+    let mut w = Walk { at: at, due: n };
+    while 0 < w.due {
+        let i = w.at;
+        w = passed(w, q[i]);
     }
-    i
+    w.at
 }
 
 // The position behind the formula at a position.
@@ -325,13 +334,12 @@ pub fn letters(q: &[u8], at: usize, n: usize, set: u64) -> u64
     ensures { λ r. ⌜ Marks (take n (formulas (drop at (now (q .entry))))) set r ⌝ }
 {
     let mut all = set;
-    let mut i = at;
-    let mut due = n;
-    while 0 < due {
+    let mut w = Walk { at: at, due: n };
+    while 0 < w.due {
+        let i = w.at;
         let b = q[i];
         all = marked(all, b, q[i + 1]);
-        i += command_length(b);
-        due = due_after(due, b);
+        w = passed(w, b);
     }
     all
 }

@@ -1,3 +1,5 @@
+-- `question::skip` meets its contract. The loop's invariant: the position and the bytes of the formulas due from there on add up to what
+-- they did at first. The measure is the bytes left. Assumes nothing.
 use native.Mathlib.Nat.{add-zero}
 use mathlib.Core.Path.{_≡_, refl, _∙_}
 use Prim.Native.Nat.{_+_, _-_, _≤_}
@@ -7,46 +9,24 @@ use Rattle.calculus.specs.Bytes.{formulas, bytesAll}
 use Rattle.question.proofs.Walks.{Stepped, walked-at}
 use Rattle.question.proofs.skip.Statement.{statement}
 use Rattle.question.proofs.skip.Tie as tie
+use Rattle.question.proofs.skip.Lts as lts
+use Rattle.question.proofs.skip.Reads as reads
+use Rattle.question.proofs.passed.Reads as passed-reads
 
 abbrev Inv-loop : tie.InvT-loop
-Inv-loop q at n i₀ due₀ i due = (due ≤ length (formulas (drop i q))) × (i + bytesAll (take due (formulas (drop i q))) ≡ at + bytesAll (take n (formulas (drop at q))))
+Inv-loop q at n w₀ w =
+    (w .due ≤ length (formulas (drop (w .at) q)))
+    × (w .at + bytesAll (take (w .due) (formulas (drop (w .at) q))) ≡ at + bytesAll (take n (formulas (drop at q))))
 
 abbrev μ-loop : tie.MeasureT-loop
-μ-loop q at n i₀ due₀ i due = length q - i
+μ-loop q at n w₀ w = length q - w .at
 
 -- the command at the loop's byte
-step-here : (c : tie.In-loop Inv-loop μ-loop) → Stepped (c .before .before .before .args .q .now) (c .before .loop .i) (c .before .loop .due)
-step-here c = let l = c .before .loop in walked-at (c .before .before .before .args .q .now) (l .i) (l .due) (c .loop-test .taken) (l .inv .0)
-
-loop-holds : tie.Need-loop-holds Inv-loop μ-loop
-loop-holds c = (c .before .pre, refl)
-
-shared-slice-read-b : tie.Need-shared-slice-read-b Inv-loop μ-loop
-shared-slice-read-b c = step-here (c .before) .inside
-
-command-length-requires : tie.Need-command-length-requires Inv-loop μ-loop
-command-length-requires c κs = tt
-
-add-i : tie.Need-add-i Inv-loop μ-loop
-add-i c = omega (arith, step-here (c .before .before) .fits, c .command-length .ensures)
-
-due-after-requires : tie.Need-due-after-requires Inv-loop μ-loop
-due-after-requires c κs = omega (arith, step-here (c .before .before) .small)
-
-loop-less : tie.Need-loop-less Inv-loop μ-loop
-loop-less c =
-    let w = step-here (c .before .before .before) in
-    omega (arith, w .onward, w .inside, c .before .command-length .ensures)
-
-loop-again : tie.Need-loop-again Inv-loop μ-loop
-loop-again c =
-    let w = step-here (c .before .before .before) in
-    rw (c .due-after .ensures, c .before .command-length .ensures) (w .due, w .sizes ∙ c .before .before .before .before .loop .inv .1)
-
-returns : tie.Need-returns Inv-loop μ-loop
-returns c =
-    let z : c .before .loop .due ≡ 0 = omega arith in
-    rw (z, add-zero) at (c .before .loop .inv .1)
+step-here : (c : lts.After-shared-slice-known2 (passed-reads.Asked, passed-reads.Learnt) reads.Pre reads.Post Inv-loop μ-loop) →
+    Stepped (c .before .before .before .before .before .args .q .now) (c .before .before .before .loop .w .at) (c .before .before .before .loop .w .due)
+step-here c =
+    let l = c .before .before .before .loop in
+    walked-at (c .before .before .before .before .before .args .q .now) (l .w .at) (l .w .due) (c .before .if1 .taken) (l .inv .0)
 
 pub skip-spec : {M : Type 1} → statement M
 skip-spec =
@@ -54,11 +34,12 @@ skip-spec =
     (tie.spec
     Inv-loop
     μ-loop
-    loop-holds
-    shared-slice-read-b
-    command-length-requires
-    add-i
-    due-after-requires
-    loop-less
-    loop-again
-    returns)
+    (λ c. (c .before .pre, refl))
+    (λ c. step-here c .inside)
+    (λ c κs. omega (arith, c .before .if1 .taken, step-here c .small, step-here c .inside))
+    (λ c. let w = step-here (c .before) in omega (arith, w .onward, w .inside, c .passed .ensures .0))
+    (λ c. let w = step-here (c .before) in rw (c .passed .ensures .0, c .passed .ensures .1) (w .due, w .sizes ∙ c .before .before .before .before .loop .inv .1))
+    (λ c.
+    let l = c .before .before .loop in
+    let z : l .w .due ≡ 0 = omega arith in
+    rw (z, add-zero) at (l .inv .1)))
