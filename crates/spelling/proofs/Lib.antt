@@ -1,0 +1,2 @@
+-- The laws behind the functions' proofs. Assumes nothing.
+pub mod Order
