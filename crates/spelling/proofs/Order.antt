@@ -1,15 +1,18 @@
 -- Bytes compared from a position on, and a place put among others.
 -- Assumes nothing.
-use mathlib.Core.Path.{_≡_, refl}
+use mathlib.Core.Path.{_≡_, refl, sym, _∙_}
 use mathlib.Core.List.{List, [], _∷_, _++_}
-use Prim.Native.Nat.{ℕ, suc, _+_, _≤_, _<_}
+use Prim.Native.Nat.{ℕ, zero, suc, _+_, _≤_, _<_}
 use native.Mathlib.Numerals.{add-one}
 use native.Mathlib.Omega.{arith}
-use lib.ListN.{length, take, drop, getD, drop-of-length-le}
-use lib.Seq.{drop-cons}
+use lib.ListN.{length, take, drop, getD, take-append-drop, drop-of-length-le}
+use lib.Seq.{drop-cons, take-suc, append-snoc, getD-take, length-take-le, slice-empty, slice-cons}
 use borrow.Author.Tests.{lt-ltb, le-ltb}
 use Rattle.calculus.specs.declared.Comparison.the-variants.{Less, Equal, Greater}
-use Rattle.calculus.specs.Standard.{compareByte, firstly, compare}
+use Rattle.calculus.specs.Fold.{Each}
+use Rattle.calculus.specs.Standard.{compareByte, firstly, compare, insert}
+use Rattle.spelling.specs.declared.Spot.the-variants.{Before}
+use Rattle.spelling.specs.Places.{Inside, bytesAt, putAt, Listed}
 
 -- ---- bytes compared from position i on
 
@@ -40,3 +43,42 @@ module _ (x y : List ℕ) (i : ℕ) where
 
   pub both-end : length x ≤ i → length y ≤ i → compare (drop i x) (drop i y) ≡ Equal
   both-end h k = rw (drop-of-length-le x h, drop-of-length-le y k)
+
+-- ---- the places of q in the first n items
+
+pub each-take : {X : Type 0} (Q : X → Type 0) (l : List X) (n i : ℕ) (d : X) → n ≤ length l → Each Q (take n l) → i < n → Q (getD l i d)
+each-take Q l zero i d k h j = absurd (omega arith)
+each-take Q [] (suc n) i d k h j = absurd (omega arith)
+each-take Q (x ∷ l) (suc n) zero d k h j = h .0
+each-take Q (x ∷ l) (suc n) (suc i) d k h j = each-take Q l n i d (omega arith) (h .1) (omega arith)
+
+module _ (q items : List ℕ) (n : ℕ) (list : Listed q items n) where
+  fits : n ≤ length items
+  fits = omega (arith, list .few, list .size)
+
+  pub inside-at : (i : ℕ) → i < n → Inside q (getD items i 0)
+  inside-at i h = each-take (Inside q) items n i 0 fits (list .inside) h
+
+  -- p is to be put among those from i on
+  module _ (p i : ℕ) (same : take i (take n items) ++ insert (bytesAt q) p (drop i (take n items)) ≡ insert (bytesAt q) p (take n items)) where
+    module _ (h : i < n) where
+      cut : drop i (take n items) ≡ getD items i 0 ∷ drop (i + 1) (take n items)
+      cut = rw (add-one i) (slice-cons i n items 0 h fits)
+
+      grown : take (i + 1) (take n items) ≡ take i (take n items) ++ (getD items i 0 ∷ [])
+      grown =
+          let k : i < length (take n items) = rw (length-take-le n items fits) h in
+          rw (add-one i, ← getD-take n items i 0 h) (take-suc (take n items) i 0 k)
+
+      pub before-it : compare (bytesAt q p) (bytesAt q (getD items i 0)) ≡ Less → putAt (Before i) p (take n items) ≡ insert (bytesAt q) p (take n items)
+      before-it e = rw cut (rw (cut, e) at same)
+
+      pub there-it : compare (bytesAt q p) (bytesAt q (getD items i 0)) ≡ Equal → take n items ≡ insert (bytesAt q) p (take n items)
+      there-it e = sym (take-append-drop i (take n items)) ∙ rw cut (rw (cut, e) at same)
+
+      pub behind-it : compare (bytesAt q p) (bytesAt q (getD items i 0)) ≡ Greater
+          → take (i + 1) (take n items) ++ insert (bytesAt q) p (drop (i + 1) (take n items)) ≡ insert (bytesAt q) p (take n items)
+      behind-it e = rw (grown, append-snoc) (rw (cut, e) at same)
+
+    pub behind-all : i ≡ n → putAt (Before n) p (take n items) ≡ insert (bytesAt q) p (take n items)
+    behind-all z = rw (slice-empty n items) (rw (z, slice-empty n items) at same)
