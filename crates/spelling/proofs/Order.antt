@@ -1,12 +1,12 @@
 -- Bytes compared from a position on, and a place put among others.
 -- Assumes nothing.
-use mathlib.Core.Path.{_≡_, refl, sym, _∙_}
+use mathlib.Core.Path.{_≡_, refl, sym, ap, _∙_}
 use mathlib.Core.List.{List, [], _∷_, _++_}
-use Prim.Native.Nat.{ℕ, zero, suc, _+_, _≤_, _<_}
+use Prim.Native.Nat.{ℕ, zero, suc, _+_, _-_, _≤_, _<_}
 use native.Mathlib.Numerals.{add-one}
 use native.Mathlib.Omega.{arith}
-use lib.ListN.{length, take, drop, getD, take-append-drop, drop-of-length-le}
-use lib.Seq.{drop-cons, take-suc, append-snoc, getD-take, length-take-le, slice-empty, slice-cons}
+use lib.ListN.{length, take, drop, getD, set, length-take, take-append-drop, drop-of-length-le, List·getD-append}
+use lib.Seq.{drop-cons, take-suc, append-snoc, set-at, take-set-lt, getD-take, length-take-le, take-take, slice-empty, slice-cons}
 use borrow.Author.Tests.{lt-ltb, le-ltb}
 use Rattle.calculus.specs.declared.Comparison.the-variants.{Less, Equal, Greater}
 use Rattle.calculus.specs.Fold.{Each}
@@ -82,3 +82,31 @@ module _ (q items : List ℕ) (n : ℕ) (list : Listed q items n) where
 
     pub behind-all : i ≡ n → putAt (Before n) p (take n items) ≡ insert (bytesAt q) p (take n items)
     behind-all z = rw (slice-empty n items) (rw (z, slice-empty n items) at same)
+
+-- ---- items moved up by one from the last: a place put in at n, at the one before, and so on
+
+pub put-last : (items : List ℕ) (n : ℕ) → n < length items → take (n + 1) items ≡ putAt (Before n) (getD items n 0) (take n items)
+put-last items n h = let k : n ≤ n = omega arith in rw (add-one n, take-suc items n 0, take-take n n items, slice-empty n items)
+
+module _ (items ps : List ℕ) (n : ℕ) (size : length ps ≡ n) where
+  -- what stands at j is written over
+  pub put-over : (j w v : ℕ) → j ≤ n → take (n + 1) items ≡ putAt (Before j) w ps → take (n + 1) (set items j v) ≡ putAt (Before j) v ps
+  put-over j w v h e =
+      let k : length (take j ps) ≡ j = simp length-take (omega arith) in
+      let l : j < n + 1 = omega arith in
+      rw (take-set-lt (n + 1) items j v l, e, set-at (take j ps) w (drop j ps) v j k)
+
+  -- it is written over by the one before, which then may be
+  pub put-back : (j w : ℕ) → 0 < j → j ≤ n → take (n + 1) items ≡ putAt (Before j) w ps
+      → take (n + 1) (set items j (getD items (j - 1) 0)) ≡ putAt (Before (j - 1)) (getD items (j - 1) 0) ps
+  put-back zero w p h e = absurd (omega arith)
+  put-back (suc m) w p h e =
+      let z : suc m - 1 ≡ m = omega arith in
+      let k : m < length (take (suc m) ps) = simp length-take (omega arith) in
+      let l : m < length ps = omega arith in
+      let x : getD items m 0 ≡ getD ps m 0 =
+          sym (getD-take (n + 1) items m 0 (omega arith))
+          ∙ ap (λ (xs : List ℕ). getD xs m 0) e
+          ∙ List·getD-append (take (suc m) ps) (w ∷ drop (suc m) ps) 0 m k
+          ∙ getD-take (suc m) ps m 0 (omega arith) in
+      rw z (put-over (suc m) w (getD items m 0) h e ∙ rw (x, take-suc ps m 0, append-snoc, ← drop-cons ps m 0))
