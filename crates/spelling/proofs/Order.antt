@@ -1,6 +1,6 @@
 -- Bytes compared from a position on, and a place put among others.
 -- Assumes nothing.
-use mathlib.Core.Path.{_≡_, refl, sym, ap, _∙_}
+use mathlib.Core.Path.{_≡_, sym, ap, _∙_}
 use mathlib.Core.List.{List, [], _∷_, _++_}
 use Prim.Native.Nat.{ℕ, zero, suc, _+_, _-_, _≤_, _<_}
 use native.Mathlib.Numerals.{add-one}
@@ -59,26 +59,27 @@ module _ (q items : List ℕ) (n : ℕ) (list : Listed q items n) where
   pub inside-at : (i : ℕ) → i < n → Inside q (getD items i 0)
   inside-at i h = each-take (Inside q) items n i 0 fits (list .inside) h
 
+  -- item i, cut from those behind it and added to those before it
+  pub cut : (i : ℕ) → i < n → drop i (take n items) ≡ getD items i 0 ∷ drop (i + 1) (take n items)
+  cut i h = rw (add-one i) (slice-cons i n items 0 h fits)
+
+  pub grown : (i : ℕ) → i < n → take (i + 1) (take n items) ≡ take i (take n items) ++ (getD items i 0 ∷ [])
+  grown i h =
+      let k : i < length (take n items) = rw (length-take-le n items fits) h in
+      rw (add-one i, ← getD-take n items i 0 h) (take-suc (take n items) i 0 k)
+
   -- p is to be put among those from i on
   module _ (p i : ℕ) (same : take i (take n items) ++ insert (bytesAt q) p (drop i (take n items)) ≡ insert (bytesAt q) p (take n items)) where
     module _ (h : i < n) where
-      cut : drop i (take n items) ≡ getD items i 0 ∷ drop (i + 1) (take n items)
-      cut = rw (add-one i) (slice-cons i n items 0 h fits)
-
-      grown : take (i + 1) (take n items) ≡ take i (take n items) ++ (getD items i 0 ∷ [])
-      grown =
-          let k : i < length (take n items) = rw (length-take-le n items fits) h in
-          rw (add-one i, ← getD-take n items i 0 h) (take-suc (take n items) i 0 k)
-
       pub before-it : compare (bytesAt q p) (bytesAt q (getD items i 0)) ≡ Less → putAt (Before i) p (take n items) ≡ insert (bytesAt q) p (take n items)
-      before-it e = rw cut (rw (cut, e) at same)
+      before-it e = rw (cut i h) (rw (cut i h, e) at same)
 
       pub there-it : compare (bytesAt q p) (bytesAt q (getD items i 0)) ≡ Equal → take n items ≡ insert (bytesAt q) p (take n items)
-      there-it e = sym (take-append-drop i (take n items)) ∙ rw cut (rw (cut, e) at same)
+      there-it e = sym (take-append-drop i (take n items)) ∙ rw (cut i h) (rw (cut i h, e) at same)
 
       pub behind-it : compare (bytesAt q p) (bytesAt q (getD items i 0)) ≡ Greater
           → take (i + 1) (take n items) ++ insert (bytesAt q) p (drop (i + 1) (take n items)) ≡ insert (bytesAt q) p (take n items)
-      behind-it e = rw (grown, append-snoc) (rw (cut, e) at same)
+      behind-it e = rw (grown i h, append-snoc) (rw (cut i h, e) at same)
 
     pub behind-all : i ≡ n → putAt (Before n) p (take n items) ≡ insert (bytesAt q) p (take n items)
     behind-all z = rw (slice-empty n items) (rw (z, slice-empty n items) at same)
