@@ -3,7 +3,7 @@
 use mathlib.Core.Path.{_≡_, refl, sym, ap, _∙_}
 use mathlib.Core.Logic.{_↔_}
 use mathlib.Core.Bool.{true, false, false≢true}
-use mathlib.Core.Option.{none, some}
+use mathlib.Core.Option.{Option, none, some}
 use mathlib.Core.List.{List, [], _∷_, _++_, append-assoc, append-nil}
 use Prim.Native.Nat.{ℕ, _+_, _*_, _≤_}
 use native.Mathlib.Omega.{arith}
@@ -56,6 +56,27 @@ formulas-encode (join b x y) l =
 pub formulas-encodeAll : (xs : List Formula) (l : List ℕ) → formulas (encodeAll xs ++ l) ≡ xs ++ formulas l
 formulas-encodeAll [] l = refl
 formulas-encodeAll (x ∷ xs) l = rw (append-assoc, formulas-encode x (encodeAll xs ++ l), formulas-encodeAll xs l)
+
+-- bytes begin with the formulas that they spell
+pub spelt : (l : List ℕ) → (t : List ℕ) × (l ≡ encodeAll (formulas l) ++ t)
+spelt [] = ([], refl)
+spelt (b ∷ []) = (b ∷ [], refl)
+spelt (b ∷ k ∷ bs) = go (command b) refl (spelt bs) (spelt (k ∷ bs))
+  where
+    joined : (c : Connective) (xs : List Formula) (t : List ℕ) → code (CONNECTIVE c) ≡ b → k ∷ bs ≡ encodeAll xs ++ t
+        → (u : List ℕ) × (b ∷ k ∷ bs ≡ encodeAll (attach c xs) ++ u)
+    joined NOT [] t e h = (b ∷ k ∷ bs, refl)
+    joined NOT (x ∷ xs) t e h = (t, rw (← e, h))
+    joined (two o) [] t e h = (b ∷ k ∷ bs, refl)
+    joined (two o) (x ∷ []) t e h = (b ∷ k ∷ bs, refl)
+    joined (two o) (x ∷ y ∷ xs) t e h = (t, rw (← e, h, append-assoc (encode x) (encode y) (encodeAll xs)))
+
+    go : (o : Option Command) → command b ≡ o → (t : List ℕ) × (bs ≡ encodeAll (formulas bs) ++ t) → (t : List ℕ) × (k ∷ bs ≡ encodeAll (formulas (k ∷ bs)) ++ t)
+        → (t : List ℕ) × (b ∷ k ∷ bs ≡ encodeAll (spell o k (formulas bs) (formulas (k ∷ bs))) ++ t)
+    go none e past here = (b ∷ k ∷ bs, refl)
+    go (some (SIDE s)) e past here = (b ∷ k ∷ bs, refl)
+    go (some LETTER) e past here = (past .0, rw (← command-byte b LETTER e) (ap (λ (l : List ℕ). 1 ∷ k ∷ l) (past .1)))
+    go (some (CONNECTIVE c)) e past here = joined c (formulas (k ∷ bs)) (here .0) (command-byte b (CONNECTIVE c) e) (here .1)
 
 pub question-encode : (S : Sequent) → question (encodeSequent S) ≡ S
 question-encode S =

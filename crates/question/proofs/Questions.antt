@@ -2,12 +2,12 @@
 -- Assumes nothing.
 use mathlib.Core.Path.{_≡_, refl, sym, ap, _∙_}
 use mathlib.Core.Option.{none, some}
-use mathlib.Core.List.{List, [], _∷_, _++_, append-assoc, append-nil}
+use mathlib.Core.List.{List, [], _∷_, _++_, append-assoc}
 use Prim.Native.Nat.{ℕ, zero, suc, _+_, _-_, _≤_, _<_}
 use native.Mathlib.Decide.{decLt}
 use native.Mathlib.Omega.{arith}
 use lib.ListN.{length, take, drop, getD, getElem?, length-append, length-drop}
-use lib.Seq.{drop-drop, drop-append-add, getD-append-add, take-append-seam, take-length}
+use lib.Seq.{getD-append-add, take-append-seam, take-length}
 use Rattle.calculus.specs.declared.Side.{Side}
 use Rattle.calculus.specs.declared.Side.the-variants.{Left, Right}
 use Rattle.calculus.specs.Fold.{Each}
@@ -15,6 +15,7 @@ use Rattle.calculus.specs.Syntax.{Formula, on-side}
 use Rattle.calculus.specs.Bytes.{encode, encodeAll, encodeSide, encodeSequent, formulas, bytes, bytesAll, question, sideStart, startOf, Lettered}
 use Rattle.calculus.specs.Reading.{Reading, accepted, refused, reading}
 use Rattle.calculus.specs.Reply.{formulaPart, formulaBytes}
+use Rattle.calculus.proofs.Spelling.{spelt}
 use Rattle.calculus.proofs.Readings.{accepted-question}
 use Rattle.question.specs.declared.Reading.{Reading as Answer}
 use Rattle.question.specs.declared.Reading.the-variants.{Accepted, Refused}
@@ -63,17 +64,6 @@ module _ (q : List ℕ) (a : reading q ≡ accepted) where
       go Left h = (omega arith, omega (arith, length-append (encodeSide Left (question q .on-left)) (encodeSide Right (question q .on-right))))
       go Right h = (omega arith, omega (arith, length-append (encodeSide Left (question q .on-left)) (encodeSide Right (question q .on-right))))
 
-  -- from there on they are written out
-  side-written : (s : Side) → (t : List ℕ) × (drop (sideStart s (question q)) q ≡ encodeAll (on-side s (question q)) ++ t)
-  side-written Left = (encodeSide Right (question q .on-right), ap (drop 2) (sym coded))
-  side-written Right =
-      let S = question q in
-      let n : 4 + bytesAll (S .on-left) ≡ length (encodeSide Left (S .on-left)) + 2 = omega arith in (
-        [],
-        ap (λ (l : List ℕ). drop (4 + bytesAll (S .on-left)) l) (sym coded) ∙ ap (λ (k : ℕ). drop k (encodeSequent S)) n
-            ∙ drop-append-add (encodeSide Left (S .on-left)) (encodeSide Right (S .on-right)) 2 ∙ sym (append-nil (encodeAll (S .on-right))),
-      )
-
   -- where the right side starts, from the left side's count
   pub right-start : (n r : ℕ) → n ≡ getD q 1 0 → r ≡ 2 + bytesAll (take n (formulas (drop 2 q))) → r + 2 ≡ sideStart Right (question q)
   right-start n r e h =
@@ -101,16 +91,15 @@ place-formulas q s i h =
     let k = skip-formulas q (sideStart s (question q)) i (rw e h) in
     rw e at k
 
-drop-written : (xs : List Formula) (i : ℕ) (t : List ℕ) → drop (bytesAll (take i xs)) (encodeAll xs ++ t) ≡ encodeAll (drop i xs) ++ t
-drop-written xs zero t = refl
-drop-written [] (suc i) t = refl
-drop-written (x ∷ xs) (suc i) t =
-    rw (append-assoc (encode x) (encodeAll xs) t, length-append (encode x) (encodeAll (take i xs)))
-    (drop-append-add (encode x) (encodeAll xs ++ t) (bytesAll (take i xs)) ∙ drop-written xs i t)
-
 written-first : (ys : List Formula) (t : List ℕ) → 1 ≤ length ys → take (bytes (firstOf ys)) (encodeAll ys ++ t) ≡ encode (firstOf ys)
 written-first [] t h = absurd (omega arith)
 written-first (y ∷ ys) t h = rw (append-assoc (encode y) (encodeAll ys) t) (take-append-seam (encode y) (encodeAll ys ++ t))
+
+-- "that formula's own bytes"
+pub own-bytes : (q : List ℕ) (p : ℕ) → Well q p → take (bytes (formulaAt q p)) (drop p q) ≡ encode (formulaAt q p)
+own-bytes q p w =
+    let s = spelt (drop p q) in
+    ap (take (bytes (formulaAt q p))) (s .1) ∙ written-first (formulas (drop p q)) (s .0) w
 
 module _ (q : List ℕ) (a : reading q ≡ accepted) (s : Side) (i : ℕ) (h : i < length (on-side s (question q))) where
   pub place-well : Well q (startOf s i (question q))
@@ -120,11 +109,7 @@ module _ (q : List ℕ) (a : reading q ≡ accepted) (s : Side) (i : ℕ) (h : i
   place-part = rw (a, element-first (on-side s (question q)) i h, place-formulas q s i (omega arith))
 
   own-part : take (bytes (firstOf (drop i (on-side s (question q))))) (drop (startOf s i (question q)) q) ≡ encode (firstOf (drop i (on-side s (question q))))
-  own-part =
-      let xs = on-side s (question q) in
-      let w = side-written q a s in
-      rw (← drop-drop (bytesAll (take i xs)) (sideStart s (question q)) q, w .1, drop-written xs i (w .0))
-      (written-first (drop i xs) (w .0) (omega (arith, length-drop i xs)))
+  own-part = rw (place-formulas q s i (omega arith)) at (own-bytes q (startOf s i (question q)) place-well)
 
   part-own : partBytes (formulaPart q s i) q ≡ formulaBytes q s i
   part-own = rw (a, element-first (on-side s (question q)) i h) own-part

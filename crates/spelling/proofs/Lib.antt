@@ -1,3 +1,4 @@
 -- The laws behind the functions' proofs. Assumes nothing.
 pub mod Order
 pub mod Writes
+pub mod Arranges

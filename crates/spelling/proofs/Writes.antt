@@ -36,6 +36,12 @@ module _ (old : List ℕ) (at : ℕ) (bs out : List ℕ) (i : ℕ) (a : Storing 
   pub storing-last : length bs ≤ i → out ≡ sets old at bs
   storing-last h = rw (drop-of-length-le bs h) at (a .same)
 
+-- two bytes, and what follows
+pub headed : (l : List ℕ) (at h n : ℕ) (bs : List ℕ) → sets (set (set l at h) (at + 1) n) (at + 2) bs ≡ sets l at (h ∷ n ∷ bs)
+headed l at h n bs =
+    let e : at + 2 ≡ suc (suc at) = omega arith in
+    rw (add-one at, e)
+
 -- ---- places one by one
 
 -- the bytes at a place, counted

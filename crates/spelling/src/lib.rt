@@ -297,6 +297,24 @@ fn arrange_both(
     }
 }
 
+// Writes both sides.
+fn write_both(
+    q: &[u8],
+    lefts: &[u16; ALL_FORMULAS],
+    rights: &[u16; ALL_FORMULAS],
+    s: Sizes,
+    out: &mut [u8],
+)
+    requires { ⌜
+        Stand (now q) (now lefts) (s .lefts) (arranged (question (now q) .on-left))
+        × Stand (now q) (now rights) (s .rights) (arranged (question (now q) .on-right))
+        × (length (spelling (question (now q))) ≤ length (now out)) ⌝ }
+    ensures { λ r. ⌜ now (out .exit) ≡ sets (now (out .entry)) 0 (spelling (question (now (q .entry)))) ⌝ }
+{
+    let at = write_side(q, Side::Left, lefts, s.lefts, out, 0);
+    write_side(q, Side::Right, rights, s.rights, out, at);
+}
+
 // What the call answers: a refusal, or how many bytes the spelling has.
 pub enum Spelling {
     Refused(Refusal),
@@ -317,8 +335,7 @@ fn spell_accepted(q: &[u8], out: &mut [u8]) -> Spelling
     if out.len() < s.bytes {
         return Spelling::NoSpace(s.bytes);
     }
-    let at = write_side(q, Side::Left, &lefts, s.lefts, out, 0);
-    write_side(q, Side::Right, &rights, s.rights, out, at);
+    write_both(q, &lefts, &rights, s, out);
     Spelling::Spelled(s.bytes)
 }
 
