@@ -2,3 +2,5 @@
 pub mod Order
 pub mod Writes
 pub mod Arranges
+pub mod Stands
+pub mod Spelled

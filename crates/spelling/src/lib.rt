@@ -142,36 +142,6 @@ fn enter(q: &[u8], items: &mut [u16; ALL_FORMULAS], n: usize, p: u16) -> usize
     }
 }
 
-// How many places there are, and the position behind the formulas that were read.
-pub struct Arranged {
-    pub n: usize,
-    pub end: usize,
-}
-
-// The places of so many formulas that stand one after the other from a position on: ascending by their bytes, equal ones
-// once.
-fn arrange(q: &[u8], at: usize, count: usize, items: &mut [u16; ALL_FORMULAS]) -> Arranged
-    requires { ⌜
-        (length (now q) ≤ LONGEST)
-        × (count ≤ FORMULAS)
-        × (count ≤ length (formulas (drop at (now q))))
-        × (length (now items) ≡ FORMULAS) ⌝ }
-    ensures { λ r. ⌜
-        (r .end ≡ at + bytesAll (take count (formulas (drop at (now (q .entry))))))
-        × Stand (now (q .entry)) (now (items .exit)) (r .n) (arranged (take count (formulas (drop at (now (q .entry)))))) ⌝ }
-{
-    let mut n = 0;
-    let mut i = at;
-    let mut due = count;
-    while 0 < due {
-        let end = question::end_of(q, i);
-        n = enter(q, items, n, place(i, end));
-        i = end;
-        due -= 1;
-    }
-    Arranged { n: n, end: i }
-}
-
 // How many bytes stand at the first n places.
 fn bytes_in(items: &[u16; ALL_FORMULAS], n: usize) -> usize
     requires { ⌜ ((q : List ℕ) × Listed q (now items) n × (length q ≤ LONGEST)) ⌝ }
@@ -185,6 +155,42 @@ fn bytes_in(items: &[u16; ALL_FORMULAS], n: usize) -> usize
         i += 1;
     }
     sum
+}
+
+// How many places there are, the bytes that stand there, and the position behind the formulas that were read.
+pub struct Arranged {
+    pub n: usize,
+    pub bytes: usize,
+    pub end: usize,
+}
+
+// The places of so many formulas that stand one after the other from a position on: ascending by their bytes, equal ones
+// once.
+fn arrange(q: &[u8], at: usize, count: usize, items: &mut [u16; ALL_FORMULAS]) -> Arranged
+    requires { ⌜
+        (length (now q) ≤ LONGEST)
+        × (count ≤ FORMULAS)
+        × (count ≤ length (formulas (drop at (now q))))
+        × (length (now items) ≡ FORMULAS) ⌝ }
+    ensures { λ r. ⌜
+        (r .end ≡ at + bytesAll (take count (formulas (drop at (now (q .entry))))))
+        × (r .bytes ≡ bytesAll (arranged (take count (formulas (drop at (now (q .entry)))))))
+        × Stand (now (q .entry)) (now (items .exit)) (r .n) (arranged (take count (formulas (drop at (now (q .entry)))))) ⌝ }
+{
+    let mut n = 0;
+    let mut i = at;
+    let mut due = count;
+    while 0 < due {
+        let end = question::end_of(q, i);
+        n = enter(q, items, n, place(i, end));
+        i = end;
+        due -= 1;
+    }
+    Arranged {
+        n: n,
+        bytes: bytes_in(items, n),
+        end: i,
+    }
 }
 
 // Writes bytes from a place of the buffer on, and answers the place behind them.
@@ -293,7 +299,7 @@ fn arrange_both(
     Sizes {
         lefts: l.n,
         rights: r.n,
-        bytes: 4 + bytes_in(lefts, l.n) + bytes_in(rights, r.n),
+        bytes: 4 + l.bytes + r.bytes,
     }
 }
 

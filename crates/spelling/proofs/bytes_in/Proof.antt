@@ -52,8 +52,7 @@ bytes-in-spec =
     let l = c .before .before .before .before .loop in
     let h = c .before .before .before .loop-test .taken in
     let p = getD (a .items .now) (l .i) 0 in
-    let g : c .before .end-in .result - c .start-in .result ≡ endIn p - startIn p = rw (c .start-in .ensures, c .before .end-in .ensures) in
-    (
+    let g : c .before .end-in .result - c .start-in .result ≡ endIn p - startIn p = rw (c .start-in .ensures, c .before .end-in .ensures) in (
       omega arith,
       omega (arith, here (c .before .before .before), g, l .inv .1, s .pre .2),
       λ q k. omega (arith, g, l .inv .2 q k, count-item q (a .items .now) (a .n) (l .i) k h),
