@@ -4,3 +4,4 @@ pub mod Writes
 pub mod Arranges
 pub mod Stands
 pub mod Spelled
+pub mod Replies

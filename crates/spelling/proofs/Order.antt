@@ -106,8 +106,8 @@ module _ (items ps : List ℕ) (n : ℕ) (size : length ps ≡ n) where
       let k : m < length (take (suc m) ps) = simp length-take (omega arith) in
       let l : m < length ps = omega arith in
       let x : getD items m 0 ≡ getD ps m 0 =
-          sym (getD-take (n + 1) items m 0 (omega arith))
-          ∙ ap (λ (xs : List ℕ). getD xs m 0) e
-          ∙ List·getD-append (take (suc m) ps) (w ∷ drop (suc m) ps) 0 m k
-          ∙ getD-take (suc m) ps m 0 (omega arith) in
+      sym (getD-take (n + 1) items m 0 (omega arith))
+      ∙ ap (λ (xs : List ℕ). getD xs m 0) e
+      ∙ List·getD-append (take (suc m) ps) (w ∷ drop (suc m) ps) 0 m k
+      ∙ getD-take (suc m) ps m 0 (omega arith) in
       rw z (put-over (suc m) w (getD items m 0) h e ∙ rw (x, take-suc ps m 0, append-snoc, ← drop-cons ps m 0))

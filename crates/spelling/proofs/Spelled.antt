@@ -5,6 +5,7 @@ use mathlib.Core.List.{List, [], _∷_, _++_}
 use Prim.Native.Nat.{ℕ, _+_, _≤_}
 use native.Mathlib.Omega.{arith}
 use lib.ListN.{length, take, drop, length-append}
+use lib.Seq.{sets}
 use Rattle.calculus.specs.declared.Side.{Side}
 use Rattle.calculus.specs.declared.Side.the-variants.{Left, Right}
 use Rattle.calculus.specs.Limits.{LIMITS, LONGEST, FORMULAS}
@@ -13,6 +14,7 @@ use Rattle.calculus.specs.Bytes.{SIDE, code, encodeAll, encodeSide, formulas, b
 use Rattle.calculus.specs.Reading.{accepted, reading}
 use Rattle.calculus.specs.Standard.{arranged, spelling}
 use Rattle.calculus.proofs.Readings.{accepted-question, exactly-under}
+use Rattle.calculus.proofs.Buffers.{sets-append}
 use Rattle.calculus.proofs.Standard.{spelling-accepted}
 use Rattle.question.proofs.Questions.{side-read, side-inside}
 use Rattle.spelling.specs.Places.{bytesIn, Stand}
@@ -51,3 +53,28 @@ spelling-length q =
 -- a side as it is written
 pub side-bytes : (s : Side) (q items : List ℕ) (n : ℕ) (xs : List Formula) → Stand q items n xs → code (SIDE s) ∷ n ∷ bytesIn q (take n items) ≡ encodeSide s xs
 side-bytes s q items n xs h = rw (stand-bytes q items n xs h, stand-count q items n xs h)
+
+-- ---- both sides written
+
+module _ (q lefts rights : List ℕ) (m n : ℕ) (l : Stand q lefts m (arranged (question q .on-left))) (r : Stand q rights n (arranged (question q .on-right))) where
+  lefts-are : length (bytesIn q (take m lefts)) ≡ bytesAll (arranged (question q .on-left))
+  lefts-are = ap length (stand-bytes q lefts m (arranged (question q .on-left)) l)
+
+  rights-are : length (bytesIn q (take n rights)) ≡ bytesAll (arranged (question q .on-right))
+  rights-are = ap length (stand-bytes q rights n (arranged (question q .on-right)) r)
+
+  pub left-room : (k : ℕ) → length (spelling (question q)) ≤ k → 2 + length (bytesIn q (take m lefts)) ≤ k
+  left-room k h = omega (arith, spelling-length q, lefts-are)
+
+  pub right-room : (k at : ℕ) → at ≡ 2 + length (bytesIn q (take m lefts)) → length (spelling (question q)) ≤ k → at + 2 + length (bytesIn q (take n rights)) ≤ k
+  right-room k at e h = omega (arith, spelling-length q, lefts-are, rights-are)
+
+  pub both-written : (old mid new : List ℕ) (at : ℕ) → at ≡ 2 + length (bytesIn q (take m lefts))
+      → mid ≡ sets old 0 (code (SIDE Left) ∷ m ∷ bytesIn q (take m lefts)) → new ≡ sets mid at (code (SIDE Right) ∷ n ∷ bytesIn q (take n rights))
+      → new ≡ sets old 0 (spelling (question q))
+  both-written old mid new at e f g =
+      let A = encodeSide Left (arranged (question q .on-left)) in
+      let B = encodeSide Right (arranged (question q .on-right)) in
+      let i : at ≡ 0 + length A = omega (arith, lefts-are) in
+      let a : mid ≡ sets old 0 A = f ∙ ap (sets old 0) (side-bytes Left q lefts m (arranged (question q .on-left)) l) in
+      g ∙ (ap (sets mid at) (side-bytes Right q rights n (arranged (question q .on-right)) r) ∙ (rw (a, i) (sets-append old 0 A B)))
