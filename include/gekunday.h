@@ -4,7 +4,8 @@
  * A question is a sequent: a left side and a right side, each a list of formulas.  In a state (which letters are true)
  * it is true if some left formula is false or some right formula is true.  A question that is true in every state is a
  * theorem; every other one is refuted, and the library names a state that makes each left formula true and each right
- * formula false, or all such states.
+ * formula false, or all such states.  Questions that differ only in the order of a side's formulas, or in how often one
+ * stands there, have one standard spelling.
  *
  * THE BYTES OF A QUESTION (hexadecimal)
  *
@@ -31,12 +32,13 @@
  *   - It returns a number: 0 where there is no refusal, otherwise one of the GEKUNDAY_... numbers below.
  *   - It writes every word of `out`.  Words that the comment at the call does not name are 0.
  *   - It uses no heap, no globals and no files; calls from several threads do not disturb each other.
- *   - It changes no lent byte but those of the derivation that gekunday_derive writes, and of the states that
- *     gekunday_states lists, when it returns 0.  A refused call leaves each lent byte as it was.
+ *   - It changes no lent byte but those of the derivation that gekunday_derive writes, of the states that
+ *     gekunday_states lists, and of the spelling that gekunday_spell writes, when it returns 0.  A refused call leaves
+ *     each lent byte as it was.
  *   - It ends, for all bytes and all lengths.  There is nothing that the caller must check first: only that each pointer
  *     is good for the length or room that goes with it (for 0, any pointer that is not null will do) and that `out` has
  *     the words its type says.  A question or derivation may share bytes with another one, but not with the buffer of a
- *     derivation or of states, or with `out`; nor may such a buffer share any with `out`.
+ *     derivation, of states or of a spelling, or with `out`; nor may such a buffer share any with `out`.
  *
  * HOW LONG A CALL CAN TAKE
  *
@@ -50,6 +52,8 @@
  * W is at most 2 to the power c, so these bounds fit 64 bits.  A budget of c * W is never spent.
  *
  * gekunday_states has no budget.  It tries the states of the letters that occur, at most 65,536, whatever W is.
+ *
+ * gekunday_spell has no budget, either.  It puts the formulas of each side in order, at most 16, whatever W is.
  */
 #ifndef GEKUNDAY_H
 #define GEKUNDAY_H
@@ -111,7 +115,7 @@ extern "C" {
 #define GEKUNDAY_FULL 8             /* a premise would hold more than 80 formulas; the limits above leave no such question */
 #define GEKUNDAY_SPENT 9            /* the budget is below the reductions that the question takes */
 #define GEKUNDAY_NOT_PROVED 10      /* a derivation is asked of a refuted question */
-#define GEKUNDAY_NO_SPACE 11        /* the buffer is shorter than the derivation or the list of states */
+#define GEKUNDAY_NO_SPACE 11        /* the buffer is shorter than the derivation, the list of states or the spelling */
 
 /* States that were not listed; looked for before NO_SPACE. */
 #define GEKUNDAY_MANY_LETTERS 12    /* more than 16 different letters occur in the question */
@@ -201,6 +205,25 @@ uint32_t gekunday_check(const uint8_t *question, size_t length, const uint8_t *d
  * room of 0 the call answers how many states there are.
  */
 uint32_t gekunday_states(const uint8_t *question, size_t length, uint64_t *states, size_t room, uint64_t out[1]);
+
+/*
+ * Writes the standard spelling of a question to the first bytes of `buffer`, which has `room` bytes: on each side the
+ * formulas ascend by their bytes, compared from the first, and equal ones are written once.  The bytes behind the
+ * spelling keep their content.
+ *
+ *   0: out = {length}; 11: {length needed}; 1 to 7: {place}
+ *
+ * Two accepted questions get the same spelling exactly if each side has the same set of formulas.  A spelling is an
+ * accepted question, and its spelling is itself.  It is true in exactly the states in which the question is: a theorem
+ * stays a theorem, a refuted one stays refuted, and gekunday_states answers the same.  What need not stay: which of the
+ * refuting states gekunday_decide names, the reductions and closings, the width, and the places of formulas.  So a
+ * derivation of the question need not pass for its spelling.
+ *
+ * Under any number but 0 the whole buffer keeps its content.  A spelling is never longer than its question, so a buffer
+ * of `length` bytes, or of GEKUNDAY_QUESTION_MAX, is never too short; with a room of 0 the call answers how long the
+ * spelling is.
+ */
+uint32_t gekunday_spell(const uint8_t *question, size_t length, uint8_t *buffer, size_t room, uint64_t out[1]);
 
 #ifdef __cplusplus
 }
