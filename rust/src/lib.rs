@@ -3,7 +3,8 @@
 //! A *question* is a sequent in bytes: a left side and a right side, each a list of formulas over the letters 0 to 63.
 //! In a state (which letters are true) it is true if some left formula is false or some right formula is true. If it is
 //! true in every state, it is a *theorem*; otherwise it is *refuted*, by a state that is handed back. All states that
-//! refute it can be listed, too.
+//! refute it can be listed, too. Questions that differ only in the order of a side's formulas, or in how often one
+//! stands there, have one standard *spelling*.
 //!
 //! | bytes | meaning |
 //! |---|---|
@@ -20,7 +21,7 @@
 //! 31, reads as the same number: `u64::from(stored)` for a `u32`.
 //!
 //! ```
-//! use gekunday::{check, decide, derive, states, width, Kind};
+//! use gekunday::{check, decide, derive, spell, states, width, Kind};
 //!
 //! // From NOT (P OR Q) follows NOT P (Principia 2.45).
 //! let question = [0x10, 1, 0x02, 0x04, 0x01, 0, 0x01, 1, 0x20, 1, 0x02, 0x01, 0];
@@ -46,12 +47,17 @@
 //! // A state that was stored with 32 bits is found by its number.
 //! let stored: u32 = 0b10;
 //! assert!(states(&question, &mut buffer).unwrap().contains(&u64::from(stored)));
+//!
+//! // Q, P and Q again on the left is the same question as P and Q.
+//! let question = [0x10, 3, 0x01, 1, 0x01, 0, 0x01, 1, 0x20, 0];
+//! let mut buffer = [0; 10];
+//! assert_eq!(spell(&question, &mut buffer).unwrap(), [0x10, 2, 0x01, 0, 0x01, 1, 0x20, 0]);
 //! # Ok::<(), gekunday::Refusal>(())
 //! ```
 //!
 //! No call panics, uses a heap or keeps anything between calls. What the answers mean is proved of the library; this
 //! wrapper only gives them types. A reply that the library's contract excludes would never read as a theorem, as a
-//! derivation written, as one that passes or as a list of states.
+//! derivation written, as one that passes, as a list of states or as a spelling.
 
 #![no_std]
 #![deny(unsafe_op_in_unsafe_fn, missing_docs)]
@@ -414,6 +420,39 @@ impl fmt::Display for NotListed {
 
 impl Error for NotListed {}
 
+/// Why [`spell`] wrote nothing.
+#[derive(Clone, Copy, Debug, PartialEq, Eq, Hash)]
+pub enum NotSpelled {
+    /// 1 to 7: the question is refused.
+    Refused(Refusal),
+    /// 11: the buffer is shorter than the spelling.
+    NoSpace {
+        /// Bytes that the spelling has.
+        needed: u64,
+    },
+}
+
+impl NotSpelled {
+    /// The library's number: 1 to 7 or 11.
+    pub const fn number(self) -> u32 {
+        match self {
+            NotSpelled::Refused(refusal) => refusal.number(),
+            NotSpelled::NoSpace { .. } => 11,
+        }
+    }
+}
+
+impl fmt::Display for NotSpelled {
+    fn fmt(&self, f: &mut fmt::Formatter<'_>) -> fmt::Result {
+        match self {
+            NotSpelled::Refused(refusal) => refusal.fmt(f),
+            NotSpelled::NoSpace { needed } => write!(f, "no space: {} bytes needed", needed),
+        }
+    }
+}
+
+impl Error for NotSpelled {}
+
 /// Decides a question with at most `budget` reductions.
 ///
 /// The verdict is [`Kind::Spent`] exactly if the question takes more reductions than the budget. A budget of
@@ -630,5 +669,58 @@ pub fn states<'s>(question: &[u8], buffer: &'s mut [u64]) -> Result<&'s [u64], N
         11 => Err(NotListed::NoSpace { needed: first }),
         12 => Err(NotListed::ManyLetters { letters: first }),
         _ => Err(NotListed::Refused(Refusal::of(number, first))),
+    }
+}
+
+/// Writes the standard spelling of a question to the first bytes of `buffer`: on each side the formulas ascend by their
+/// bytes, compared from the first, and equal ones are written once.
+///
+/// Two accepted questions get the same spelling exactly if each side has the same set of formulas. A spelling is an
+/// accepted question, and its spelling is itself. It is true in exactly the states in which the question is: a theorem
+/// stays a theorem, a refuted one stays refuted, and [`states`] answers the same. What need not stay: which of the
+/// refuting states [`decide`] names, the reductions and closings, the width, and the places of formulas. So a
+/// derivation of the question need not pass for its spelling.
+///
+/// The bytes behind the spelling keep their content; under an error all do. A spelling is never longer than its
+/// question, so a buffer of [`QUESTION_MAX`] bytes is never too short; an empty one asks for the length alone.
+///
+/// ```
+/// use gekunday::{spell, NotSpelled};
+///
+/// // NOT Q and P on the left, with P twice, and R on the right.
+/// let question = [0x10, 3, 0x01, 0, 0x02, 0x01, 1, 0x01, 0, 0x20, 1, 0x01, 2];
+/// assert_eq!(spell(&question, &mut []), Err(NotSpelled::NoSpace { needed: 11 }));
+///
+/// let mut buffer = [0xff; 13];
+/// let spelling = spell(&question, &mut buffer)?;
+/// assert_eq!(spelling, [0x10, 2, 0x01, 0, 0x02, 0x01, 1, 0x20, 1, 0x01, 2]);
+///
+/// // The same formulas in another order, with R twice.
+/// let question = [0x10, 2, 0x02, 0x01, 1, 0x01, 0, 0x20, 2, 0x01, 2, 0x01, 2];
+/// assert_eq!(spell(&question, &mut [0; 13])?, spelling);
+/// assert_eq!(buffer[11..], [0xff; 2]);
+///
+/// // Q AND P beside P AND Q: they are true in the same states, but are two formulas.
+/// let question = [0x10, 2, 0x03, 0x01, 1, 0x01, 0, 0x03, 0x01, 0, 0x01, 1, 0x20, 0];
+/// let spelling = [0x10, 2, 0x03, 0x01, 0, 0x01, 1, 0x03, 0x01, 1, 0x01, 0, 0x20, 0];
+/// assert_eq!(spell(&question, &mut [0; 14])?, spelling);
+/// # Ok::<(), gekunday::NotSpelled>(())
+/// ```
+pub fn spell<'b>(question: &[u8], buffer: &'b mut [u8]) -> Result<&'b [u8], NotSpelled> {
+    let mut out = [0; 1];
+    // SAFETY: the pointers and lengths are those of live slices, `buffer` is borrowed for writing, and `out` has 1
+    // word.
+    let number = unsafe {
+        raw::gekunday_spell(question.as_ptr(), question.len(), buffer.as_mut_ptr(), buffer.len(), out.as_mut_ptr())
+    };
+    let [first] = out;
+    match number {
+        0 => {
+            let length = usize::try_from(first).unwrap_or(usize::MAX);
+            // The library never says that it wrote more than the buffer holds.
+            buffer.get(..length).ok_or(NotSpelled::NoSpace { needed: first })
+        }
+        11 => Err(NotSpelled::NoSpace { needed: first }),
+        _ => Err(NotSpelled::Refused(Refusal::of(number, first))),
     }
 }

@@ -53,4 +53,11 @@ extern "C" {
     /// `question` is good for reading `length` bytes, `states` for writing `room` numbers that share no byte with the
     /// question, `out` for writing 1 word.
     pub fn gekunday_states(question: *const u8, length: usize, states: *mut u64, room: usize, out: *mut u64) -> u32;
+
+    /// 0: `out` = {length}; 11: {length needed}; 1 to 7: {place}.
+    ///
+    /// # Safety
+    /// `question` is good for reading `length` bytes, `buffer` for writing `room` bytes that are not the question's,
+    /// `out` for writing 1 word.
+    pub fn gekunday_spell(question: *const u8, length: usize, buffer: *mut u8, room: usize, out: *mut u64) -> u32;
 }
