@@ -6,13 +6,9 @@ mod common;
 use common::calls;
 use common::examine::{examine, Seen};
 use common::prng::Prng;
-use common::LETTERS;
+use common::{hex, LETTERS};
 
 const LARGE: u64 = 1_000_000;
-
-fn hex(text: &str) -> Vec<u8> {
-    text.split_whitespace().map(|byte| u8::from_str_radix(byte, 16).unwrap()).collect()
-}
 
 /// A theorem with its counts, its width and its derivation.
 fn theorem(question: &str, reductions: u64, closings: u64, width: u64, derivation: &str) {
@@ -289,6 +285,60 @@ fn smallest_lists_refused() {
     // 1 to 7 come before 12.
     assert_eq!(calls::states(&[&seventeen[..], &[0]].concat(), 0), (7, [38], vec![]));
     assert_eq!(calls::states(&seventeen[..37], 9), (2, [37], vec![]));
+}
+
+/// The smallest spellings, by hand: whole, and with a room one byte short.
+#[test]
+fn smallest_spellings() {
+    for (question, spelling) in [
+        // Empty sides and single formulas are their own spellings.
+        ("10 00 20 00", "10 00 20 00"),
+        ("10 01 01 00 20 01 01 00", "10 01 01 00 20 01 01 00"),
+        ("10 01 02 04 01 00 01 01 20 01 02 01 00", "10 01 02 04 01 00 01 01 20 01 02 01 00"),
+        ("10 01 03 01 01 01 00 20 01 03 01 00 01 01", "10 01 03 01 01 01 00 20 01 03 01 00 01 01"),
+        (CASE_9, CASE_9),
+        // Two letters in order, in the other order, and the same one twice.
+        ("10 02 01 00 01 01 20 00", "10 02 01 00 01 01 20 00"),
+        ("10 02 01 01 01 00 20 00", "10 02 01 00 01 01 20 00"),
+        ("10 02 01 00 01 00 20 00", "10 01 01 00 20 00"),
+        // The same on the right.
+        ("10 00 20 02 01 00 01 01", "10 00 20 02 01 00 01 01"),
+        ("10 00 20 02 01 01 01 00", "10 00 20 02 01 00 01 01"),
+        ("10 00 20 02 01 00 01 00", "10 00 20 01 01 00"),
+        // Each side by itself: one in order, the other not; what stands on both stays on both.
+        ("10 02 01 00 01 01 20 02 01 01 01 00", "10 02 01 00 01 01 20 02 01 00 01 01"),
+        ("10 02 01 00 01 00 20 01 01 00", "10 01 01 00 20 01 01 00"),
+    ] {
+        let (question, spelling) = (hex(question), hex(spelling));
+        let length = spelling.len();
+        assert_eq!(calls::spell(&question, length), (0, [length as u64], spelling), "{:02x?}", question);
+        assert_eq!(calls::spell(&question, length - 1), (11, [length as u64], vec![]), "{:02x?}", question);
+        everything(&question);
+    }
+}
+
+/// Number 11 of a spelling: its own length counts, not the question's. 1 to 7 come before it.
+#[test]
+fn smallest_spellings_not_written() {
+    for (question, length) in [("10 00 20 00", 4), ("10 02 01 05 01 05 20 00", 6)] {
+        for room in 0..length {
+            assert_eq!(calls::spell(&hex(question), room), (11, [length as u64], vec![]), "room {}", room);
+        }
+        assert_eq!(calls::spell(&hex(question), length).0, 0);
+    }
+    for (question, number, place) in [
+        (vec![0x10; 213], 1, 212),
+        (hex("10 00"), 2, 2),
+        (hex("10 00 10"), 3, 2),
+        (hex("10 11"), 4, 1),
+        (hex("10 01 01 40"), 5, 3),
+        ([&[0x10, 1], &[2; 49][..]].concat(), 6, 50),
+        (hex("10 00 20 00 00"), 7, 4),
+    ] {
+        for room in [0, 3, 4, 300] {
+            assert_eq!(calls::spell(&question, room), (number, [place], vec![]), "{:02x?}", question);
+        }
+    }
 }
 
 /// The lowest letter closes, wherever it stands.

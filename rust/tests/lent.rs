@@ -5,7 +5,7 @@
 mod common;
 
 use common::prng::Prng;
-use common::{order, questions, tree, truth};
+use common::{order, questions, spelling, tree, truth};
 use gekunday::raw;
 use std::ffi::{c_int, c_long, c_void};
 
@@ -150,6 +150,39 @@ fn no_list_goes_beyond_the_lent_places() {
     }
 }
 
+/// Nor does the call that spells touch a byte beside the lent ones.
+#[test]
+fn no_spelling_goes_beyond_the_lent_bytes() {
+    let mut rng = Prng::new(23);
+    let (mut for_question, mut for_buffer) = (Fenced::new(), Fenced::new());
+    let mut numbers = [0u64; 12];
+    for round in 0..30_000 {
+        let bytes = match rng.below(6) {
+            0 => questions::short(&mut rng),
+            1 => questions::near_limits(&mut rng),
+            2 | 3 => questions::repeated(&mut rng),
+            _ => questions::damaged(&mut rng),
+        };
+        let at_end = round % 4 != 0;
+        let question = for_question.put(&bytes, at_end).cast_const();
+        let length = spelling::spell(&bytes, usize::MAX).2.len();
+        for room in [0, length.saturating_sub(1), length, length + 3] {
+            let start = for_buffer.put(&vec![0xa5; room], at_end);
+            let mut out = [7; 1];
+            let number = unsafe { raw::gekunday_spell(question, bytes.len(), start, room, out.as_mut_ptr()) };
+            let (due, word, written) = spelling::spell(&bytes, room);
+            assert_eq!((number, out), (due, word), "{:02x?} with room {}", bytes, room);
+            let lent = unsafe { std::slice::from_raw_parts(start, room) };
+            assert_eq!(lent[..written.len()], written);
+            assert!(lent[written.len()..].iter().all(|&byte| byte == 0xa5), "{:02x?}: {}", bytes, room);
+            numbers[number as usize] += 1;
+        }
+    }
+    for number in [0, 1, 2, 3, 4, 5, 6, 7, 11] {
+        assert!(numbers[number] > 500, "{} is rare: {:?}", number, numbers);
+    }
+}
+
 /// Lengths, rooms and derivation lengths of 2 to the power 32 and a little more are not taken for small ones. The pages
 /// are never touched, so they take no memory.
 #[test]
@@ -203,5 +236,26 @@ fn a_room_over_32_bits_for_states() {
         let number = raw::gekunday_states(question.as_ptr(), question.len(), states, room, out.as_mut_ptr());
         assert_eq!((number, out), (0, [3]));
         assert_eq!(std::slice::from_raw_parts(states, 5), [1, 2, 3, 0, 0]);
+    }
+}
+
+/// The same for spellings, and a length of 2 to the power 32 and a little more.
+#[test]
+fn a_length_and_a_room_over_32_bits_for_spellings() {
+    let large = (1usize << 32) + 4;
+    let buffer = Mapped::new(large, READ_WRITE);
+    let mut out = [7; 1];
+    // Q and P on the left.
+    let question = [0x10, 2, 1, 1, 1, 0, 0x20, 0];
+    unsafe {
+        let number = raw::gekunday_spell(question.as_ptr(), question.len(), buffer.start, large - 4, out.as_mut_ptr());
+        assert_eq!((number, out), (0, [8]));
+        assert_eq!(std::slice::from_raw_parts(buffer.start, 10), [0x10, 2, 1, 0, 1, 1, 0x20, 0, 0, 0]);
+
+        // The first four bytes of the large slice are a question by themselves.
+        std::ptr::copy_nonoverlapping([0x10, 0, 0x20, 0].as_ptr(), buffer.start, 4);
+        let mut short = [3; 8];
+        let number = raw::gekunday_spell(buffer.start, large, short.as_mut_ptr(), 8, out.as_mut_ptr());
+        assert_eq!((number, out, short), (1, [212], [3; 8]));
     }
 }

@@ -71,6 +71,17 @@ fn every_pair_in_a_formula() {
     }
 }
 
+/// The same in a spelling: the lower letter comes first, and one letter twice is written once.
+#[test]
+fn every_pair_in_a_spelling() {
+    for (j, k) in (0..LETTERS).flat_map(|j| (0..LETTERS).map(move |k| (j, k))) {
+        let pair = question(&[letter(j), letter(k)], &[letter(k), letter(j)]);
+        let side: Vec<Vec<u8>> = if j == k { vec![letter(j)] } else { vec![letter(j.min(k)), letter(j.max(k))] };
+        let spelling = question(&side, &side);
+        assert_eq!(calls::spell(&pair, 12), (0, [spelling.len() as u64], spelling), "{} and {}", j, k);
+    }
+}
+
 /// A letter is no formula with a connective, whatever its number, and however many such formulas there are.
 #[test]
 fn letters_beside_formulas() {
@@ -140,6 +151,7 @@ fn every_byte_as_a_letter() {
             assert_eq!(calls::derive(&question, 9, 9), (5, [word, 0, 0], vec![]), "{:02x?}", question);
             assert_eq!(calls::check(&question, &[0x41, byte]), (5, [word]), "{:02x?}", question);
             assert_eq!(calls::states(&question, 9), (5, [word], vec![]), "{:02x?}", question);
+            assert_eq!(calls::spell(&question, 99), (5, [word], vec![]), "{:02x?}", question);
             assert_eq!(calls::formula(&question, 0, 0), (0, [0, 0]), "{:02x?}", question);
         }
     }
@@ -204,7 +216,7 @@ fn alike(question: &[u8], name: impl Fn(u8) -> u8, moved: impl Fn(u64) -> u64) -
     if number == 10 {
         words[0] = moved(words[0]);
     }
-    let due = renamed_closings(&derivation, name);
+    let due = renamed_closings(&derivation, &name);
     assert_eq!(calls::derive(&other, 2_000, 4_096), (number, words, due.clone()), "{:02x?}", other);
     if number == 0 {
         assert_eq!(calls::check(&other, &due), (0, [0]), "{:02x?}", other);
@@ -213,6 +225,9 @@ fn alike(question: &[u8], name: impl Fn(u8) -> u8, moved: impl Fn(u64) -> u64) -
     let (number, words, listed) = calls::states(question, 1_024);
     let due_list: Vec<u64> = listed.iter().map(|&state| moved(state)).collect();
     assert_eq!(calls::states(&other, 1_024), (number, words, due_list.clone()), "{:02x?}", other);
+
+    let (number, words, spelling) = calls::spell(question, question.len());
+    assert_eq!(calls::spell(&other, other.len()), (number, words, renamed(&spelling, &name)), "{:02x?}", other);
     [due != derivation, moved(state) != state, due_list != listed]
 }
 

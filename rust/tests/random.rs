@@ -1,5 +1,5 @@
-//! At least 200,000 random questions, valid and damaged, short and up to the limits, against a truth table and a tree
-//! written apart from the library. The seeds are fixed, so the numbers of questions of each kind are, too.
+//! At least 200,000 random questions, valid and damaged, short and up to the limits, against a truth table, a tree and
+//! a spelling written apart from the library. The seeds are fixed, so the numbers of questions of each kind are, too.
 
 mod common;
 
@@ -37,6 +37,7 @@ fn short_questions() {
     assert!(seen.states > seen.refuted * 3 / 2, "{:?}", seen);
     assert!(seen.theorems > SHORT / 10 && seen.refuted > SHORT / 10, "{:?}", seen);
     assert!(seen.closings > SHORT / 2, "{:?}", seen);
+    assert!(seen.respelled > SHORT / 2 && seen.shortened > SHORT / 10, "{:?}", seen);
     assert!(seen.high.questions > SHORT / 2 && seen.high.closings > SHORT / 4, "{:?}", seen);
     assert!(seen.high.refuting > seen.refuted / 3 && seen.high.listed > seen.states / 3, "{:?}", seen);
 }
@@ -63,6 +64,7 @@ fn questions_near_the_limits() {
     assert!(seen.tables > NEAR_LIMITS / 4, "{:?}", seen);
     assert!(seen.listed > NEAR_LIMITS / 4 && seen.states > NEAR_LIMITS / 4, "{:?}", seen);
     assert!(seen.many_letters > NEAR_LIMITS / 10 && seen.most_letters > 40, "{:?}", seen);
+    assert!(seen.respelled > NEAR_LIMITS * 3 / 4 && seen.shortened > NEAR_LIMITS / 4, "{:?}", seen);
     assert!(seen.high.questions > NEAR_LIMITS / 2 && seen.high.closings > NEAR_LIMITS, "{:?}", seen);
     assert!(seen.high.refuting > seen.refuted / 2 && seen.high.listed > seen.states / 2, "{:?}", seen);
 }
@@ -93,6 +95,7 @@ fn formulas_on_both_sides() {
     assert!(equals.over_0 > REPEATED / 2, "{:?}", seen);
     assert!(equals.more_left > REPEATED / 4 && equals.more_right > REPEATED / 4, "{:?}", seen);
     assert!(equals.letter_first > REPEATED / 10, "{:?}", seen);
+    assert!(seen.respelled > REPEATED * 3 / 4 && seen.shortened > REPEATED / 2, "{:?}", seen);
     assert!(seen.high.questions > REPEATED / 2 && seen.high.closings > REPEATED, "{:?}", seen);
 }
 
@@ -104,6 +107,7 @@ fn damaged_questions() {
     }
     assert!(seen.theorems + seen.refuted > DAMAGED / 30, "{:?}", seen);
     assert!(seen.listed > DAMAGED / 30 && seen.many_letters > DAMAGED / 1_000, "{:?}", seen);
+    assert!(seen.respelled > DAMAGED / 30 && seen.shortened > DAMAGED / 100, "{:?}", seen);
     assert!(seen.high.questions > DAMAGED / 30 && seen.high.closings > DAMAGED / 30, "{:?}", seen);
 }
 

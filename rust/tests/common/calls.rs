@@ -1,7 +1,7 @@
-//! The six calls by their C interface. Each call is watched: the question and the derivation lie between bytes of a
+//! The seven calls by their C interface. Each call is watched: the question and the derivation lie between bytes of a
 //! pattern and are compared afterwards; `out` lies between words of a pattern and is full of it before the call; a
-//! lent buffer lies between bytes of a pattern and is full of it, and keeps it wherever no derivation was written; the
-//! slice for states likewise, wherever no state was listed.
+//! lent buffer lies between bytes of a pattern and is full of it, and keeps it wherever no derivation or spelling was
+//! written; the slice for states likewise, wherever no state was listed.
 
 use gekunday::raw;
 
@@ -35,6 +35,39 @@ impl Lent {
     }
 }
 
+/// A buffer lent for writing, full of a pattern and between bytes of it.
+struct Buffer {
+    arena: Vec<u8>,
+    room: usize,
+}
+
+impl Buffer {
+    fn pattern(i: usize) -> u8 {
+        0xa5 ^ (i as u8).wrapping_mul(29)
+    }
+
+    fn new(room: usize) -> Buffer {
+        Buffer { arena: (0..room + 2 * EDGE).map(Buffer::pattern).collect(), room }
+    }
+
+    fn start(&mut self) -> *mut u8 {
+        self.arena[EDGE..].as_mut_ptr()
+    }
+
+    /// The bytes written: under 0 as many as the first word says. All others are as they were.
+    fn written(&self, number: u32, words: &[u64]) -> Vec<u8> {
+        let length = if number == 0 { words[0] as usize } else { 0 };
+        assert!(length <= self.room, "more bytes written than the buffer has");
+        for (i, &byte) in self.arena.iter().enumerate() {
+            if i < EDGE || i >= EDGE + length {
+                let room = self.room;
+                assert_eq!(byte, Buffer::pattern(i), "byte {i} of a buffer with room {room} changed under {number}");
+            }
+        }
+        self.arena[EDGE..EDGE + length].to_vec()
+    }
+}
+
 fn with_out<const N: usize>(call: impl FnOnce(*mut u64) -> u32) -> (u32, [u64; N]) {
     let mut words = [WORD; 8];
     let number = call(words[2..].as_mut_ptr());
@@ -65,21 +98,13 @@ pub fn formula(question: &[u8], side: u32, place: usize) -> (u32, [u64; 2]) {
 
 /// Number, words and, under 0, the derivation that was written.
 pub fn derive(question: &[u8], budget: u64, room: usize) -> (u32, [u64; 3], Vec<u8>) {
-    let pattern = |i: usize| 0xa5 ^ (i as u8).wrapping_mul(29);
     let mut lent = Lent::new(question);
-    let mut arena: Vec<u8> = (0..room + 2 * EDGE).map(pattern).collect();
-    let buffer = arena[EDGE..].as_mut_ptr();
-    let (number, words) =
-        with_out::<3>(|out| unsafe { raw::gekunday_derive(lent.start(), question.len(), budget, buffer, room, out) });
+    let mut buffer = Buffer::new(room);
+    let (number, words) = with_out::<3>(|out| unsafe {
+        raw::gekunday_derive(lent.start(), question.len(), budget, buffer.start(), room, out)
+    });
     lent.check();
-    let length = if number == 0 { words[0] as usize } else { 0 };
-    assert!(length <= room, "a derivation longer than the buffer");
-    for (i, &byte) in arena.iter().enumerate() {
-        if i < EDGE || i >= EDGE + length {
-            assert_eq!(byte, pattern(i), "byte {} of a buffer with room {} changed under {}", i, room, number);
-        }
-    }
-    (number, words, arena[EDGE..EDGE + length].to_vec())
+    (number, words, buffer.written(number, &words))
 }
 
 pub fn check(question: &[u8], derivation: &[u8]) -> (u32, [u64; 1]) {
@@ -110,4 +135,14 @@ pub fn states(question: &[u8], room: usize) -> (u32, [u64; 1], Vec<u64>) {
         }
     }
     (number, words, arena[EDGE..EDGE + length].to_vec())
+}
+
+/// Number, word and, under 0, the spelling that was written.
+pub fn spell(question: &[u8], room: usize) -> (u32, [u64; 1], Vec<u8>) {
+    let mut lent = Lent::new(question);
+    let mut buffer = Buffer::new(room);
+    let (number, words) =
+        with_out::<1>(|out| unsafe { raw::gekunday_spell(lent.start(), question.len(), buffer.start(), room, out) });
+    lent.check();
+    (number, words, buffer.written(number, &words))
 }

@@ -1,9 +1,10 @@
-//! One question put to the library, the truth table and the tree: everything that they must agree on.
+//! One question put to the library, the truth table, the tree and the other spelling: everything that they must agree
+//! on.
 
 use super::prng::Prng;
 use super::tree::{self, End, Equals, Question, Tree};
-use super::{calls, high_letters, order, truth, HIGH};
-use gekunday::{Kind, NotListed, NotWritten, Refusal, Side, Verdict};
+use super::{calls, high_letters, order, spelling, truth, HIGH};
+use gekunday::{Kind, NotListed, NotSpelled, NotWritten, Refusal, Side, Verdict};
 
 /// What has been seen, so that a test can show that its questions were not all of one kind.
 #[derive(Default, Debug)]
@@ -22,6 +23,9 @@ pub struct Seen {
     pub many_letters: u64,
     pub most_letters: usize,
     pub high: High,
+    /// Questions that are not their own spelling, and those of them whose spelling is shorter.
+    pub respelled: u64,
+    pub shortened: u64,
     /// Questions with 48 connectives, with 212 bytes, with 16 formulas on a side.
     pub most_connectives: u64,
     pub most_bytes: u64,
@@ -75,6 +79,8 @@ fn refusal(bytes: &[u8], (number, place): (u32, u64), rng: &mut Prng) {
     let some = &derivation[..rng.below(6)];
     assert_eq!(calls::check(bytes, some), (number, [place]), "check {:02x?}", bytes);
     assert_eq!(calls::states(bytes, room), (number, [place], vec![]), "states of {:02x?}", bytes);
+    assert_eq!(calls::spell(bytes, room), (number, [place], vec![]), "spell {:02x?}", bytes);
+    assert_eq!(spelling::spell(bytes, room), (number, [place], vec![]), "the other spelling of {:02x?}", bytes);
     for side in 0..3 {
         for place in [0, rng.below(17)] {
             assert_eq!(calls::formula(bytes, side, place), (0, [0, 0]), "formula of {:02x?}", bytes);
@@ -87,6 +93,7 @@ fn refusal(bytes: &[u8], (number, place): (u32, u64), rng: &mut Prng) {
     assert_eq!(gekunday::derive(bytes, budget, &mut [0; 4]), Err(NotWritten::Refused(refused)));
     assert_eq!(gekunday::check(bytes, some), Err(gekunday::NotPassed::Refused(refused)));
     assert_eq!(gekunday::states(bytes, &mut [0; 4]), Err(NotListed::Refused(refused)));
+    assert_eq!(gekunday::spell(bytes, &mut [0; 4]), Err(NotSpelled::Refused(refused)));
     assert_eq!(gekunday::formula(bytes, Side::Left, 0), None);
     assert_eq!(matches!(refused, Refusal::TooLong(212)), number == 1);
 }
@@ -99,6 +106,7 @@ fn accepted(bytes: &[u8], question: &Question, table: &truth::Sequent, rng: &mut
     seen.most_letters = seen.most_letters.max(letters.len());
     seen.high.questions += u64::from(letters.iter().any(|&letter| letter >= HIGH));
     formulas(bytes, question, rng);
+    spelled(bytes, seen);
     let listed = listed(bytes, letters.len(), seen);
 
     let width = question.width();
@@ -261,6 +269,24 @@ fn wrapped_states(bytes: &[u8], room: usize, (number, [word], states): (u32, [u6
         Err(NotListed::NoSpace { needed }) => assert_eq!(needed, word),
     }
     assert!(buffer[states.len()..].iter().all(|&state| state == BEFORE));
+}
+
+/// The spelling, with rooms on both sides of its length.
+fn spelled(bytes: &[u8], seen: &mut Seen) {
+    let (_, _, spelling) = spelling::spell(bytes, bytes.len());
+    let length = spelling.len();
+    seen.respelled += u64::from(spelling != bytes);
+    seen.shortened += u64::from(length < bytes.len());
+    for room in [0, length - 1, length, length + 7] {
+        let expected = spelling::spell(bytes, room);
+        assert_eq!(calls::spell(bytes, room), expected, "spell {:02x?} with room {}", bytes, room);
+    }
+    let needed = length as u64;
+    let mut buffer = vec![0xee; length + 3];
+    assert_eq!(gekunday::spell(bytes, &mut buffer[..length - 1]), Err(NotSpelled::NoSpace { needed }));
+    assert!(buffer.iter().all(|&byte| byte == 0xee));
+    assert_eq!(gekunday::spell(bytes, &mut buffer), Ok(&spelling[..]));
+    assert_eq!(buffer[length..], [0xee; 3]);
 }
 
 fn wrapped_derive(bytes: &[u8], tree: &Tree, budget: u64) {

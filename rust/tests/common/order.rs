@@ -24,7 +24,7 @@ const PREMISES: [[&[Parts]; 2]; 5] = [
 struct Sequent<'q>([Vec<&'q [u8]>; 2]);
 
 /// Parts the first formula from the rest.
-fn first_formula(bytes: &[u8]) -> (&[u8], &[u8]) {
+pub fn first_formula(bytes: &[u8]) -> (&[u8], &[u8]) {
     let mut due = 1;
     let mut end = 0;
     while due > 0 {

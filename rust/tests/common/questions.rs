@@ -215,15 +215,15 @@ pub fn theorem(rng: &mut Prng, most: usize) -> Vec<u8> {
             let at = rng.below(side.len() + 1);
             side.insert(at, beside);
         }
-        let bytes = spelled(&left, &right);
+        let bytes = with_formulas(&left, &right);
         if super::tree::read(&bytes).is_ok() {
             return bytes;
         }
     }
 }
 
-/// The question with these formulas.
-fn spelled(left: &[Vec<u8>], right: &[Vec<u8>]) -> Vec<u8> {
+/// The question with these formulas, in this order.
+pub fn with_formulas(left: &[Vec<u8>], right: &[Vec<u8>]) -> Vec<u8> {
     [&[0x10, left.len() as u8][..], &left.concat(), &[0x20, right.len() as u8], &right.concat()].concat()
 }
 
@@ -275,7 +275,7 @@ pub fn repeated(rng: &mut Prng) -> Vec<u8> {
             let count = rng.pick(&[0, 1, 1, 2, 3, 4, 6, 9, 16]);
             (0..count).map(|_| drawn(rng, &shape, &pool)).collect()
         });
-        let bytes = spelled(&left, &right);
+        let bytes = with_formulas(&left, &right);
         if super::tree::read(&bytes).is_ok() {
             return bytes;
         }
