@@ -14,14 +14,15 @@
 //! | V | `gekunday_derive` | budget, room | number, three words, `kept`, the derivation |
 //! | K | `gekunday_check` | the derivation | number, place (0 where it passes) |
 //! | S | `gekunday_states` | room | number, word, `kept`, the states |
+//! | E | `gekunday_spell` | room | number, word, `kept`, the spelling |
 
 mod common;
 
-use common::{calls, order, tree, truth};
+use common::{calls, order, spelling, tree, truth};
 use std::fmt::{Debug, Display};
 use std::str::FromStr;
 
-/// The library's answer to the call on a line, spelled as behind `=>`.
+/// The library's answer to the call on a line, written as behind `=>`.
 fn library(call: &[&str]) -> String {
     match *call {
         ["D", question, budget] => {
@@ -47,6 +48,10 @@ fn library(call: &[&str]) -> String {
         ["S", question, room] => {
             let (number, [word], states) = calls::states(&bytes(question), decimal(room));
             format!("{number} {word} kept {}", joined(&states, ","))
+        }
+        ["E", question, room] => {
+            let (number, [word], written) = calls::spell(&bytes(question), decimal(room));
+            format!("{number} {word} kept {}", hexadecimal(&written))
         }
         _ => panic!("no such call: {call:?}"),
     }
@@ -81,6 +86,10 @@ fn apart(call: &[&str]) -> String {
         (["S", _, room], _) => {
             let (number, [word], states) = truth::states(&question, decimal(room));
             format!("{number} {word} kept {}", joined(&states, ","))
+        }
+        (["E", _, room], _) => {
+            let (number, [word], written) = spelling::spell(&question, decimal(room));
+            format!("{number} {word} kept {}", hexadecimal(&written))
         }
         _ => panic!("no such call: {call:?}"),
     }
@@ -153,4 +162,9 @@ fn equal_formulas() {
 #[test]
 fn sixty_four_letters() {
     assert_eq!(compare(include_str!("answers/d.txt")), 900);
+}
+
+#[test]
+fn standard_spellings() {
+    assert_eq!(compare(include_str!("answers/e.txt")), 500);
 }
