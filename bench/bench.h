@@ -8,13 +8,12 @@ enum { CALLS = 5, MOST_IMPLEMENTATIONS = 16, MOST_LISTERS = 16, MOST_ROUNDS = 10
 enum { DAMAGES = LETTERS + 16 }; // a changed byte is below this: a command, a letter, or one too high
 
 // How many words of the answer, beside its number, must be the same as peer_value's.
-typedef enum { VERDICT = 1, STATE = 2, TREE = 4 } agreement;
+typedef enum { VERDICT = 1, TREE = 4 } agreement;
 
 typedef struct {
     const char *name, *note;
     decide *decide; // none for the LISP process
     agreement agrees;
-    int letters; // those it knows are below this
     int passes[SETS];
     double best[SETS], median[SETS]; // nanoseconds a question
 } implementation;
@@ -26,11 +25,6 @@ typedef struct {
     int passes;
     double best, median; // nanoseconds a question
 } lister;
-
-typedef struct {
-    const question_set *set;
-    double ours, before; // nanoseconds a question
-} listing_time;
 
 typedef struct {
     const char *set;
@@ -64,10 +58,9 @@ typedef struct {
     question_set sets[SETS];
     implementation implementations[MOST_IMPLEMENTATIONS]; // the first is the library under test
     int count, rounds;
-    question_set listed, listed_before; // the same questions, in the second with letters below LETTERS_BEFORE
-    lister listers[MOST_LISTERS];       // the first is the library under test
+    question_set listed;
+    lister listers[MOST_LISTERS]; // the first is the library under test
     int listers_count;
-    listing_time listing_before;          // on listed_before
     question_set distinct[DISTINCT_SETS]; // those of the first two sets without equal compounds
     distinct_time distincts[DISTINCT_SETS];
     question_set spread; // those of the first set with letters over all LETTERS
@@ -80,12 +73,10 @@ typedef struct {
 double now(void); // nanoseconds
 void sum_up(double *samples, int count, double *best, double *median);
 
-// Listing states: who takes part, whether all agree (the run stops if not), and how long they take; then the library beside
-// the archive before, if one is given.
+// Listing states: who takes part, whether all agree (the run stops if not), and how long they take.
 void add_listers(results *r);
 void check_listing(const results *r);
 void time_listing(results *r);
-void time_listing_before(results *r);
 
 // Writing and checking derivations of the theorems, by the library and by the archive before, if one is given.
 void check_derivations(const results *r);

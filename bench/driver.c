@@ -30,16 +30,14 @@ double now(void)
 
 static void add(results *r, const char *name, const char *note, decide *f, agreement agrees)
 {
-    r->implementations[r->count++] =
-        (implementation){ .name = name, .note = note, .decide = f, .agrees = agrees, .letters = LETTERS };
+    r->implementations[r->count++] = (implementation){ .name = name, .note = note, .decide = f, .agrees = agrees };
 }
 
 static void list_implementations(results *r, bool lisp)
 {
     add(r, "gekunday", "the library, proved", gekunday_decide, TREE);
 #ifdef WITH_BEFORE
-    add(r, "before", "the archive in GEKUNDAY_BEFORE", before_decide, STATE);
-    r->implementations[r->count - 1].letters = LETTERS_BEFORE;
+    add(r, "before", "the archive in GEKUNDAY_BEFORE", before_decide, TREE);
 #endif
     add(r, "peer_value (" CC_NAME ")", "C, sequent copied for each premise", peer_value_decide, TREE);
 #ifdef WITH_CLANG
@@ -81,31 +79,12 @@ static void disagree(const char *name, const question *q, uint64_t budget, uint3
     exit(1);
 }
 
-// Only what knows the question's letters is asked.
 static void agree(const implementation *m, const question *q, uint64_t budget, uint32_t due, const uint64_t due_out[4])
 {
     uint64_t out[4] = { 7, 7, 7, 7 };
-    if (m->letters < LETTERS && highest_letter(q) >= m->letters)
-        return;
     uint32_t number = m->decide(q->bytes, q->length, budget, out);
     if (number != due || memcmp(out, due_out, m->agrees * sizeof *out))
         disagree(m->name, q, budget, number, out, due, due_out);
-}
-
-// Each refuses the first letter that it does not know.
-static void check_letters(const results *r)
-{
-    static const uint64_t due[4] = { 3 };
-    for (int i = 0; i < r->count; i++) {
-        const implementation *m = &r->implementations[i];
-        question q = { { LEFT_SIDE, 1, LETTER, m->letters, RIGHT_SIDE, 0 }, 6 };
-        uint64_t out[4] = { 7, 7, 7, 7 };
-        if (!m->decide)
-            continue;
-        uint32_t number = m->decide(q.bytes, q.length, BUDGET, out);
-        if (number != NO_SUCH_LETTER || memcmp(out, due, sizeof out))
-            disagree(m->name, &q, BUDGET, number, out, NO_SUCH_LETTER, due);
-    }
 }
 
 // Holds the peers to the papers by some of document 01's cases, two more with equal formulas and some with high letters.
@@ -237,7 +216,6 @@ static void check_spread(const results *r)
 
 static void check_all(const results *r, bool lisp)
 {
-    check_letters(r);
     check_cases(r);
     check_most_marks(r);
     for (int s = 0; s < SETS; s++) {
@@ -386,8 +364,8 @@ static void make_sets(results *r)
     r->distinct[EDITOR] = distinct_of(&r->sets[EDITOR], "Editor-size, no equal compounds");
     r->distinct[LIMITS] = distinct_of(&r->sets[LIMITS], "Near the limits, no equal compounds");
     r->spread = spread_of(&r->sets[EDITOR], "Editor-size, letters renamed");
-    r->listed_before = states_set();
-    r->listed = spread_of(&r->listed_before, "Questions with 16 letters");
+    question_set low = states_set();
+    r->listed = spread_of(&low, low.title);
 }
 
 int main(int count, char **arguments)
@@ -413,7 +391,6 @@ int main(int count, char **arguments)
     time_reading(&r.readings[SETS], &longest, r.rounds);
     time_derivations(&r);
     time_listing(&r);
-    time_listing_before(&r);
     probe_stacks(&r, &longest);
     FILE *table = open_out(out, "table.md"), *plot = open_out(out, "plot.svg");
     write_table(table, &r);

@@ -8,17 +8,11 @@
 list_states peer_each_states_clang, peer_table_states_clang, peer_words_states_clang, peer_levels_states_clang;
 #endif
 
-// A state in the list of the archive before has a bit for each letter that it knows.
 #ifdef WITH_BEFORE
-typedef uint32_t state_before;
-_Static_assert(8 * sizeof(state_before) == LETTERS_BEFORE, "a bit for each letter");
-uint32_t before_states(const uint8_t *question, size_t length, state_before *states, size_t room, uint64_t out[1]);
-#else
-typedef uint64_t state_before;
-#define before_states gekunday_states
+list_states before_states;
 #endif
 
-enum { FILL = 0xa5, FIRST_PEER = 1 };
+enum { FILL = 0xa5 };
 
 static void add(results *r, const char *name, const char *note, list_states *f, bool slow)
 {
@@ -28,6 +22,9 @@ static void add(results *r, const char *name, const char *note, list_states *f, 
 void add_listers(results *r)
 {
     add(r, "gekunday", "the library, proved", gekunday_states, false);
+#ifdef WITH_BEFORE
+    add(r, "before", "the archive in GEKUNDAY_BEFORE", before_states, false);
+#endif
     add(r, "peer_each (" CC_NAME ")", "C, state by state", peer_each_states, true);
 #ifdef WITH_CLANG
     add(r, "peer_each (clang)", "the same", peer_each_states_clang, true);
@@ -54,13 +51,11 @@ typedef struct {
     uint64_t states[MOST_STATES];
 } listing;
 
-static state_before states_before[MOST_STATES];
-
-static void ask(const lister *l, const question *q, size_t room, listing *a)
+static void ask(list_states *f, const question *q, size_t room, listing *a)
 {
     uint64_t out[1] = { 7 };
     memset(a->states, FILL, sizeof a->states);
-    a->number = l->states(q->bytes, q->length, a->states, room, out);
+    a->number = f(q->bytes, q->length, a->states, room, out);
     a->word = out[0];
 }
 
@@ -78,42 +73,21 @@ static void disagree(const char *name, const question *q, size_t room, const lis
 }
 
 // Number, word and every place of the buffer, those behind the list too.
-static void hold(const char *name, const question *q, size_t room, const listing *given, const listing *due)
-{
-    if (given->number != due->number || given->word != due->word ||
-        memcmp(given->states, due->states, sizeof due->states))
-        disagree(name, q, room, given, due);
-}
-
 static void compare(const lister *l, const question *q, size_t room, const listing *due)
 {
     static listing given;
-    ask(l, q, room, &given);
-    hold(l->name, q, room, &given, due);
-}
-
-// The archive before lists the same numbers in its own buffer. A place behind them that it has kept counts as the one due.
-static void compare_before(const question *q, size_t room, const listing *due)
-{
-    static listing given;
-    state_before kept;
-    uint64_t out[1] = { 7 }, listed = due->number ? 0 : due->word;
-    memset(states_before, FILL, sizeof states_before);
-    memset(&kept, FILL, sizeof kept);
-    given.number = before_states(q->bytes, q->length, states_before, room, out);
-    given.word = out[0];
-    for (size_t i = 0; i < MOST_STATES; i++)
-        given.states[i] = i >= listed && states_before[i] == kept ? due->states[i] : states_before[i];
-    hold("before", q, room, &given, due);
+    ask(l->states, q, room, &given);
+    if (given.number != due->number || given.word != due->word || memcmp(given.states, due->states, sizeof due->states))
+        disagree(l->name, q, room, &given, due);
 }
 
 // All answer what the plain loop does. The answer's word is handed back.
 static uint64_t agree(const results *r, const question *q, size_t room)
 {
     static listing due;
-    ask(&r->listers[FIRST_PEER], q, room, &due);
+    ask(peer_each_states, q, room, &due);
     for (int k = 0; k < r->listers_count; k++)
-        if (k != FIRST_PEER)
+        if (r->listers[k].states != peer_each_states)
             compare(&r->listers[k], q, room, &due);
     return due.word;
 }
@@ -203,49 +177,29 @@ static void check_set(const results *r, const question_set *set)
     }
 }
 
-// The archive before answers what the library does, also with one place less than the list needs.
-static void check_before(const results *r, const question_set *set)
-{
-    static listing ours;
-    for (int i = 0; i < set->count; i++) {
-        const question *q = &set->questions[i];
-        ask(&r->listers[0], q, MOST_STATES, &ours);
-        compare_before(q, MOST_STATES, &ours);
-        if (ours.number || ours.word == 0)
-            continue;
-        size_t room = ours.word - 1;
-        ask(&r->listers[0], q, room, &ours);
-        compare_before(q, room, &ours);
-    }
-}
-
 void check_listing(const results *r)
 {
     check_cases(r);
     check_counts(r);
-    for (int s = 0; s < SETS; s++) {
+    for (int s = 0; s < SETS; s++)
         check_set(r, &r->sets[s]);
-        check_before(r, &r->sets[s]);
-    }
     check_set(r, &r->listed);
-    check_before(r, &r->listed_before);
 }
 
 // Timing
 
-static double states_pass(list_states *f, const question_set *set, int times)
+static double pass(const results *r, const lister *l, int times)
 {
     static uint64_t states[MOST_STATES];
+    const question_set *set = &r->listed;
     double start = now();
     while (times-- > 0)
         for (int i = 0; i < set->count; i++) {
             uint64_t out[1];
-            f(set->questions[i].bytes, set->questions[i].length, states, MOST_STATES, out);
+            l->states(set->questions[i].bytes, set->questions[i].length, states, MOST_STATES, out);
         }
     return now() - start;
 }
-
-static double pass(const results *r, const lister *l, int times) { return states_pass(l->states, &r->listed, times); }
 
 // Each round begins at another stack address, as for the decisions.
 static double sample(const results *r, const lister *l, int round)
@@ -273,25 +227,4 @@ void time_listing(results *r)
                 samples[k][taken[k]++] = sample(r, &r->listers[k], round);
     for (int k = 0; k < r->listers_count; k++)
         sum_up(samples[k], taken[k], &r->listers[k].best, &r->listers[k].median);
-}
-
-// The archive before, into its own buffer.
-static uint32_t list_before(const uint8_t *question, size_t length, uint64_t *states, size_t room, uint64_t out[1])
-{
-    (void)states;
-    return before_states(question, length, states_before, room, out);
-}
-
-void time_listing_before(results *r)
-{
-    const question_set *set = &r->listed_before;
-    listing_time *t = &r->listing_before;
-    int times = 1 + 20e6 / states_pass(gekunday_states, set, 1);
-    *t = (listing_time){ set, 1e18, 1e18 };
-    for (int round = 0; round < r->rounds; round++) {
-        double ours = states_pass(gekunday_states, set, times) / times / set->count;
-        double before = states_pass(list_before, set, times) / times / set->count;
-        t->ours = ours < t->ours ? ours : t->ours;
-        t->before = before < t->before ? before : t->before;
-    }
 }

@@ -415,7 +415,7 @@ static uint64_t choose_by_states(question *q, int family, uint64_t least, uint64
         if (!fits(&s, z))
             continue;
         encode(&s, q);
-        rename_letters(q, LETTERS_BEFORE);
+        rename_letters(q, HIGH_LETTER);
         peer_levels_states(q->bytes, q->length, &none, 0, states);
         if (states[0] >= least && states[0] <= most)
             return states[0];
@@ -439,16 +439,14 @@ question_set states_set(void)
     return set;
 }
 
-int highest_letter(const question *q)
+static bool has_high_letter(const question *q)
 {
     reading r;
-    int highest = -1;
-    if (peer_read(q->bytes, q->length, &r))
-        return highest;
+    peer_read(q->bytes, q->length, &r);
     for (int i = 0; i < r.commands; i++)
-        if (q->bytes[r.command[i]] == LETTER && q->bytes[r.command[i] + 1] > highest)
-            highest = q->bytes[r.command[i] + 1];
-    return highest;
+        if (q->bytes[r.command[i]] == LETTER && q->bytes[r.command[i] + 1] >= HIGH_LETTER)
+            return true;
+    return false;
 }
 
 // Where the set has answers, the renamed questions get their own.
@@ -461,7 +459,7 @@ question_set spread_of(const question_set *set, const char *title)
         *q = set->questions[i];
         do
             rename_letters(q, LETTERS);
-        while (highest_letter(q) < LETTERS_BEFORE);
+        while (!has_high_letter(q));
     }
     if (set->reductions > 0)
         answer_all(&spread);

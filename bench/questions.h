@@ -6,8 +6,8 @@
 enum { BUDGET = 1000000, EDITOR_QUESTIONS = 400, LIMITS_QUESTIONS = 200, CONDITION_QUESTIONS = 200 };
 enum { LONG_QUESTIONS = 1000, STATES_QUESTIONS = 200 };
 
-// The archive in GEKUNDAY_BEFORE is one from before document 02's d: it knows the letters below this one, and no others.
-enum { LETTERS_BEFORE = 32 };
+// Letters from this one on count as high. The sets below have none, long_set apart.
+enum { HIGH_LETTER = 32 };
 
 typedef struct {
     uint8_t bytes[MOST_BYTES];
@@ -32,12 +32,8 @@ question_set states_set(void); // 16 letters, 40 to 48 connectives, for listing;
 // The questions of a set in which no compound stands twice.
 question_set distinct_of(const question_set *set, const char *title);
 
-// The questions of a set with their letters renamed, in any order, to some of all LETTERS, at least one of them not below
-// LETTERS_BEFORE. In the sets above, long_set apart, all are below it.
+// The questions of a set with their letters renamed, in any order, to some of all LETTERS, at least one of them high.
 question_set spread_of(const question_set *set, const char *title);
-
-// The highest letter of a question, or -1 if it has none or is refused.
-int highest_letter(const question *q);
 
 // The question's bytes in hexadecimal.
 void write_bytes(FILE *file, const question *q);

@@ -85,22 +85,6 @@ static void write_listing(FILE *file, const results *r)
     fprintf(file, "\n");
 }
 
-// The list beside that of the archive before.
-static void write_listing_before(FILE *file, const results *r)
-{
-#ifdef WITH_BEFORE
-    const listing_time *t = &r->listing_before;
-    char ours[32], before[32];
-    format_time(ours, sizeof ours, t->ours);
-    format_time(before, sizeof before, t->before);
-    fprintf(file, "| questions | gekunday | before | gekunday / before |\n|---|---:|---:|---:|\n");
-    fprintf(file, "| The same, letters below %d (%d) | %s | %s | %.2f |\n\n", LETTERS_BEFORE, t->set->count, ours, before,
-            t->ours / t->before);
-#else
-    (void)file, (void)r;
-#endif
-}
-
 static void write_spread(FILE *file, const results *r)
 {
     const spread_time *t = &r->spread_time;
@@ -192,7 +176,6 @@ void write_table(FILE *file, const results *r)
     write_distinct(file, r);
     write_spread(file, r);
     write_listing(file, r);
-    write_listing_before(file, r);
     write_readings(file, r);
     write_derivations(file, r);
     fprintf(file, "\n## Stack\n\n| call | greatest depth | questions tried |\n|---|---:|---:|\n");
@@ -261,8 +244,8 @@ static void write_bars(FILE *file, const results *r, int s, scale c, double top)
 static void write_legend(FILE *file, double y)
 {
     static const char *const class[] = { "ours", "tree", "other" };
-    static const char *const text[] = { "gekunday", "the same tree in C", "other methods" };
-    static const int x[] = { LABELS, LABELS + 110, LABELS + 270 };
+    static const char *const text[] = { "gekunday", "the same tree", "other methods" };
+    static const int x[] = { LABELS, LABELS + 110, LABELS + 240 };
     for (int i = 0; i < 3; i++) {
         fprintf(file, "<rect class='%s' x='%d' y='%.1f' width='12' height='12' rx='2'/>\n", class[i], x[i], y - 10);
         fprintf(file, "<text class='key' x='%d' y='%.1f'>%s</text>\n", x[i] + 18, y, text[i]);
