@@ -1,4 +1,4 @@
-// What the peers share: the reader, and one signature for everything that decides and one for everything that lists.
+// What the peers share: the reader, and one signature each for everything that decides, that lists and that spells.
 #pragma once
 #include <stddef.h>
 #include <stdint.h>
@@ -59,6 +59,10 @@ uint32_t peer_sets_closing(const uint8_t *question, size_t length, uint64_t budg
 // As gekunday_states.
 typedef uint32_t list_states(const uint8_t *question, size_t length, uint64_t *states, size_t room, uint64_t out[1]);
 list_states peer_each_states, peer_table_states, peer_words_states, peer_levels_states;
+
+// As gekunday_spell.
+typedef uint32_t spell(const uint8_t *question, size_t length, uint8_t *buffer, size_t room, uint64_t out[1]);
+spell peer_sorted_spell, peer_insertion_spell;
 
 #ifdef __cplusplus
 }

@@ -390,6 +390,55 @@ question_set long_set(void)
     return set;
 }
 
+static bool equal(const formula *f, const formula *g)
+{
+    if (!f || !g)
+        return f == g;
+    return f->connective == g->connective && f->letter == g->letter && equal(f->f, g->f) && equal(f->g, g->g);
+}
+
+// A formula of at most so many connectives that is none of those before.
+static const formula *another(const formula **before, int count, int connectives, int letters)
+{
+    const formula *f = random_formula(below(connectives + 1), letters);
+    for (int i = 0; i < count; i++)
+        if (equal(f, before[i]))
+            return another(before, count, connectives, letters);
+    return f;
+}
+
+// A side of so many formulas in any order. All but a third differ, and these are some of the others again.
+static void repeats(sequent *s, int side, int count, int connectives, int letters)
+{
+    const formula *formulas[MOST_A_SIDE];
+    int different = count - count / 3;
+    for (int i = 0; i < count; i++)
+        formulas[i] = i < different ? another(formulas, i, connectives, letters) : formulas[below(different)];
+    for (int left = count; left > 0; left--) {
+        int at = below(left);
+        add(s, side, formulas[at]);
+        formulas[at] = formulas[left - 1];
+    }
+}
+
+// So many connectives a formula that those of all formulas, on average, just fit.
+question_set repeats_set(void)
+{
+    size z = { 8, MOST_CONNECTIVES, 4, 16, MOST_A_SIDE, 0, 0 };
+    question_set set = set_of("repeats", "Questions with repeats", REPEATS_QUESTIONS);
+    seed = 5;
+    for (int i = 0; i < set.count;) {
+        sequent s = { 0 };
+        used = 0;
+        int n = between(4, MOST_A_SIDE), m = between(4, MOST_A_SIDE), letters = between(z.least_letters, z.most_letters);
+        repeats(&s, 0, n, 2 * MOST_CONNECTIVES / (n + m), letters);
+        repeats(&s, 1, m, 2 * MOST_CONNECTIVES / (n + m), letters);
+        if (fits(&s, &z))
+            encode(&s, &set.questions[i++]);
+    }
+    return set;
+}
+
 // The letters of a question, which are below the bound, renamed in any order to some of those below it.
 static void rename_letters(question *q, int bound)
 {

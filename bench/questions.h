@@ -4,7 +4,7 @@
 #include <stdio.h>
 
 enum { BUDGET = 1000000, EDITOR_QUESTIONS = 400, LIMITS_QUESTIONS = 200, CONDITION_QUESTIONS = 200 };
-enum { LONG_QUESTIONS = 1000, STATES_QUESTIONS = 200 };
+enum { LONG_QUESTIONS = 1000, STATES_QUESTIONS = 200, REPEATS_QUESTIONS = 1000 };
 
 // Letters from this one on count as high. The sets below have none, long_set apart.
 enum { HIGH_LETTER = 32 };
@@ -28,6 +28,7 @@ question_set limits_set(void); // 36 to 48 connectives, large trees
 question_set conditions_set(void); // 24 to 48 connectives, a long condition on both sides, closed on as a whole
 question_set long_set(void);   // 212 bytes, for reading; their trees can be too large to decide
 question_set states_set(void); // 16 letters, 40 to 48 connectives, for listing; the same holds of their trees
+question_set repeats_set(void); // 4 to 16 formulas a side, a third of them repeats, for spelling
 
 // The questions of a set in which no compound stands twice.
 question_set distinct_of(const question_set *set, const char *title);
