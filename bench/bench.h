@@ -4,6 +4,8 @@
 #include <stdbool.h>
 
 enum { EDITOR, LIMITS, CONDITIONS, SETS, DISTINCT_SETS = 2 };
+enum { REPEATS = SETS, LONGEST, SPELLED_SETS };
+enum { SORTED, INSERTION, SPELL_PEERS };
 enum { CALLS = 5, MOST_IMPLEMENTATIONS = 16, MOST_LISTERS = 16, MOST_ROUNDS = 101 };
 enum { DAMAGES = LETTERS + 16 }; // a changed byte is below this: a command, a letter, or one too high
 
@@ -42,6 +44,11 @@ typedef struct {
 } spread_time;
 
 typedef struct {
+    const question_set *set;
+    double ours, peers[SPELL_PEERS]; // nanoseconds a question, a peer's in its faster build
+} spelling_time;
+
+typedef struct {
     const char *set;
     int theorems;
     double decide, derive, check; // nanoseconds a theorem
@@ -65,6 +72,9 @@ typedef struct {
     distinct_time distincts[DISTINCT_SETS];
     question_set spread; // those of the first set with letters over all LETTERS
     spread_time spread_time;
+    question_set repeats, longest;
+    const question_set *spelled[SPELLED_SETS]; // the first sets and these two
+    spelling_time spellings[SPELLED_SETS];
     reading_time readings[SETS + 1];
     derivation_time derivations[SETS + DISTINCT_SETS];
     stack_use stacks[CALLS];
@@ -78,6 +88,10 @@ void add_listers(results *r);
 void check_listing(const results *r);
 void time_listing(results *r);
 
+// Spelling: whether all agree, and how long they take.
+void check_spelling(const results *r);
+void time_spelling(results *r);
+
 // Writing and checking derivations of the theorems, by the library and by the archive before, if one is given.
 void check_derivations(const results *r);
 void time_derivations(results *r);
@@ -89,4 +103,4 @@ void write_plot(FILE *file, const results *r);
 // limits and with equal conditions that have 48, and some of the longest; gekunday_states also over those of 16 letters that
 // have 48. Depths up to LEAST_DEPTH, the probe's own frame with them, are not told apart.
 enum { LEAST_DEPTH = 256 };
-void probe_stacks(results *r, const question_set *longest);
+void probe_stacks(results *r);

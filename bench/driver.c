@@ -225,6 +225,7 @@ static void check_all(const results *r, bool lisp)
     }
     check_spread(r);
     check_listing(r);
+    check_spelling(r);
     check_derivations(r);
     printf("bench: all agree\n\n");
 }
@@ -366,6 +367,12 @@ static void make_sets(results *r)
     r->spread = spread_of(&r->sets[EDITOR], "Editor-size, letters renamed");
     question_set low = states_set();
     r->listed = spread_of(&low, low.title);
+    r->repeats = repeats_set();
+    r->longest = long_set();
+    for (int s = 0; s < SETS; s++)
+        r->spelled[s] = &r->sets[s];
+    r->spelled[REPEATS] = &r->repeats;
+    r->spelled[LONGEST] = &r->longest;
 }
 
 int main(int count, char **arguments)
@@ -377,7 +384,6 @@ int main(int count, char **arguments)
     if (r.rounds < 1 || r.rounds > MOST_ROUNDS)
         r.rounds = 15;
     make_sets(&r);
-    question_set longest = long_set();
     bool lisp = lisp_start(out, r.sets, SETS);
     list_implementations(&r, lisp);
     add_listers(&r);
@@ -388,10 +394,11 @@ int main(int count, char **arguments)
     time_spread(&r.spread_time, &r.spread, &r.sets[EDITOR], r.rounds);
     for (int s = 0; s < SETS; s++)
         time_reading(&r.readings[s], &r.sets[s], r.rounds);
-    time_reading(&r.readings[SETS], &longest, r.rounds);
+    time_reading(&r.readings[SETS], &r.longest, r.rounds);
     time_derivations(&r);
     time_listing(&r);
-    probe_stacks(&r, &longest);
+    time_spelling(&r);
+    probe_stacks(&r);
     FILE *table = open_out(out, "table.md"), *plot = open_out(out, "plot.svg");
     write_table(table, &r);
     write_table(stdout, &r);

@@ -55,6 +55,20 @@ static double listing_ratio(const results *r, const char *peer)
     return r->listers[0].best / least;
 }
 
+static const char *const spell_peers[] = { [SORTED] = "peer_sorted", [INSERTION] = "peer_insertion" };
+
+static void write_spelling_headline(FILE *file, const results *r, int peer)
+{
+    static const char *const where[] = { "on spelling editor-size questions", "near the limits", "on equal conditions",
+                                         "with repeats", "with 212 bytes" };
+    fprintf(file, "- %s:", spell_peers[peer]);
+    for (int s = 0; s < SPELLED_SETS; s++) {
+        const spelling_time *t = &r->spellings[s];
+        fprintf(file, "%s **%.2f** %s", s ? "," : "", t->ours / t->peers[peer], where[s]);
+    }
+    fprintf(file, "\n");
+}
+
 static void write_headline(FILE *file, const results *r)
 {
     static const char *const peers[] = { "peer_value", "peer_best", "peer_sets" };
@@ -65,6 +79,8 @@ static void write_headline(FILE *file, const results *r)
                 peers[i], ratio(r, EDITOR, peers[i]), ratio(r, LIMITS, peers[i]), ratio(r, CONDITIONS, peers[i]));
     for (int i = 0; i < 4; i++)
         fprintf(file, "- %s: **%.2f** on listing the states\n", listers[i], listing_ratio(r, listers[i]));
+    for (int i = 0; i < SPELL_PEERS; i++)
+        write_spelling_headline(file, r, i);
     fprintf(file, "\n");
 }
 
@@ -125,6 +141,26 @@ static void write_distinct(FILE *file, const results *r)
     fprintf(file, "\n");
 }
 
+static void write_spelling(FILE *file, const results *r)
+{
+    fprintf(file, "## Spelling\n\n| questions | gekunday |");
+    for (int i = 0; i < SPELL_PEERS; i++)
+        fprintf(file, " %s, faster build | gekunday / %s |", spell_peers[i], spell_peers[i]);
+    fprintf(file, "\n|---|---:|---:|---:|---:|---:|\n");
+    for (int s = 0; s < SPELLED_SETS; s++) {
+        const spelling_time *t = &r->spellings[s];
+        char ours[32], peer[32];
+        format_time(ours, sizeof ours, t->ours);
+        fprintf(file, "| %s (%d) | %s |", t->set->title, t->set->count, ours);
+        for (int i = 0; i < SPELL_PEERS; i++) {
+            format_time(peer, sizeof peer, t->peers[i]);
+            fprintf(file, " %s | %.2f |", peer, t->ours / t->peers[i]);
+        }
+        fprintf(file, "\n");
+    }
+    fprintf(file, "\n");
+}
+
 static void write_readings(FILE *file, const results *r)
 {
     fprintf(file, "## Reading\n\n| questions | gekunday_formula, place 99 | peer's reader | ratio | share of decide |\n");
@@ -176,6 +212,7 @@ void write_table(FILE *file, const results *r)
     write_distinct(file, r);
     write_spread(file, r);
     write_listing(file, r);
+    write_spelling(file, r);
     write_readings(file, r);
     write_derivations(file, r);
     fprintf(file, "\n## Stack\n\n| call | greatest depth | questions tried |\n|---|---:|---:|\n");

@@ -133,11 +133,11 @@ static question nested(int connective, bool last, bool both)
     return q;
 }
 
-void probe_stacks(results *r, const question_set *longest)
+void probe_stacks(results *r)
 {
     static const char *const names[] = { "gekunday_decide", "gekunday_derive", "gekunday_check", "gekunday_width",
                                          "gekunday_states" };
-    const question_set *listed = &r->listed;
+    const question_set *listed = &r->listed, *longest = &r->longest;
     stack_use *stacks = r->stacks;
     probe p = { .stack = mmap(0, STACK, PROT_READ | PROT_WRITE, MAP_PRIVATE | MAP_ANONYMOUS, -1, 0),
                 .buffer = malloc(ROOM), .states = malloc(MOST_STATES * sizeof(uint64_t)) };
