@@ -35,6 +35,11 @@ typedef struct {
 
 typedef struct {
     const question_set *set;
+    double ours, before; // nanoseconds a call
+} formula_time;
+
+typedef struct {
+    const question_set *set;
     double ours, before, peer; // nanoseconds a question
 } distinct_time;
 
@@ -76,6 +81,7 @@ typedef struct {
     const question_set *spelled[SPELLED_SETS]; // the first sets and these two
     spelling_time spellings[SPELLED_SETS];
     reading_time readings[SETS + 1];
+    formula_time formulas[SPELLED_SETS];
     derivation_time derivations[SETS + DISTINCT_SETS];
     stack_use stacks[CALLS];
 } results;
@@ -91,6 +97,10 @@ void time_listing(results *r);
 // Spelling: whether all agree, and how long they take.
 void check_spelling(const results *r);
 void time_spelling(results *r);
+
+// Handing out formulas: whether the right ones, and how long it takes the library and the archive before, if one is given.
+void check_formulas(const results *r);
+void time_formulas(results *r);
 
 // Writing and checking derivations of the theorems, by the library and by the archive before, if one is given.
 void check_derivations(const results *r);

@@ -226,6 +226,7 @@ static void check_all(const results *r, bool lisp)
     check_spread(r);
     check_listing(r);
     check_spelling(r);
+    check_formulas(r);
     check_derivations(r);
     printf("bench: all agree\n\n");
 }
@@ -395,6 +396,7 @@ int main(int count, char **arguments)
     for (int s = 0; s < SETS; s++)
         time_reading(&r.readings[s], &r.sets[s], r.rounds);
     time_reading(&r.readings[SETS], &r.longest, r.rounds);
+    time_formulas(&r);
     time_derivations(&r);
     time_listing(&r);
     time_spelling(&r);

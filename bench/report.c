@@ -176,6 +176,30 @@ static void write_readings(FILE *file, const results *r)
     }
 }
 
+static void write_formulas(FILE *file, const results *r)
+{
+    fprintf(file, "\n## Handing out formulas\n\n| questions | gekunday_formula, a call |");
+#ifdef WITH_BEFORE
+    fprintf(file, " before | gekunday / before |");
+#endif
+    fprintf(file, "\n|---|---:|");
+#ifdef WITH_BEFORE
+    fprintf(file, "---:|---:|");
+#endif
+    fprintf(file, "\n");
+    for (int s = 0; s < SPELLED_SETS; s++) {
+        const formula_time *t = &r->formulas[s];
+        char ours[32], before[32];
+        format_time(ours, sizeof ours, t->ours);
+        format_time(before, sizeof before, t->before);
+        fprintf(file, "| %s (%d) | %s |", t->set->title, t->set->count, ours);
+#ifdef WITH_BEFORE
+        fprintf(file, " %s | %.2f |", before, t->ours / t->before);
+#endif
+        fprintf(file, "\n");
+    }
+}
+
 static void write_derivations(FILE *file, const results *r)
 {
     fprintf(file, "\n## Derivations\n\n| theorems of | decide | derive | derive / decide | check | check / decide |");
@@ -214,6 +238,7 @@ void write_table(FILE *file, const results *r)
     write_listing(file, r);
     write_spelling(file, r);
     write_readings(file, r);
+    write_formulas(file, r);
     write_derivations(file, r);
     fprintf(file, "\n## Stack\n\n| call | greatest depth | questions tried |\n|---|---:|---:|\n");
     for (int i = 0; i < CALLS; i++) {
