@@ -6,7 +6,7 @@
 enum { EDITOR, LIMITS, CONDITIONS, SETS, DISTINCT_SETS = 2 };
 enum { REPEATS = SETS, LONGEST, SPELLED_SETS };
 enum { SORTED, INSERTION, SPELL_PEERS };
-enum { CALLS = 5, MOST_IMPLEMENTATIONS = 16, MOST_LISTERS = 16, MOST_ROUNDS = 101 };
+enum { CALLS = 6, MOST_IMPLEMENTATIONS = 16, MOST_LISTERS = 16, MOST_ROUNDS = 101 };
 enum { DAMAGES = LETTERS + 16 }; // a changed byte is below this: a command, a letter, or one too high
 
 // How many words of the answer, beside its number, must be the same as peer_value's.
@@ -111,6 +111,7 @@ void write_plot(FILE *file, const results *r);
 
 // The greatest stack depth of each call of the library: over deeply nested questions of 48 connectives, those near the
 // limits and with equal conditions that have 48, and some of the longest; gekunday_states also over those of 16 letters that
-// have 48. Depths up to LEAST_DEPTH, the probe's own frame with them, are not told apart.
+// have 48, gekunday_spell over some with repeats. Depths up to LEAST_DEPTH, the probe's own frame with them, are not told
+// apart.
 enum { LEAST_DEPTH = 256 };
 void probe_stacks(results *r);

@@ -9,12 +9,13 @@
 
 enum { STACK = 1 << 20, PAINT = 0xa5, ROOM = 1 << 21 };
 
-typedef enum { DECIDE, DERIVE, CHECK, WIDTH, STATES } call;
+typedef enum { DECIDE, DERIVE, CHECK, WIDTH, STATES, SPELL } call;
 
 typedef struct {
     call call;
     const question *question;
     uint8_t *stack, *buffer;
+    uint8_t spelling[MOST_BYTES];
     uint64_t *states;
     size_t length, depth;
 } probe;
@@ -30,6 +31,7 @@ static void run_call(probe *p)
     case CHECK: gekunday_check(bytes, length, p->buffer, p->length, out); break;
     case WIDTH: gekunday_width(bytes, length, out); break;
     case STATES: gekunday_states(bytes, length, p->states, MOST_STATES, out); break;
+    case SPELL: gekunday_spell(bytes, length, p->spelling, MOST_BYTES, out); break;
     }
 }
 
@@ -81,6 +83,7 @@ static void probe_question(probe *p, const question *q, stack_use stacks[CALLS])
         note(&stacks[CHECK], p, CHECK);
     note(&stacks[WIDTH], p, WIDTH);
     note(&stacks[STATES], p, STATES);
+    note(&stacks[SPELL], p, SPELL);
 }
 
 static bool has_most_connectives(const question *q)
@@ -136,8 +139,8 @@ static question nested(int connective, bool last, bool both)
 void probe_stacks(results *r)
 {
     static const char *const names[] = { "gekunday_decide", "gekunday_derive", "gekunday_check", "gekunday_width",
-                                         "gekunday_states" };
-    const question_set *listed = &r->listed, *longest = &r->longest;
+                                         "gekunday_states", "gekunday_spell" };
+    const question_set *listed = &r->listed, *longest = &r->longest, *repeats = &r->repeats;
     stack_use *stacks = r->stacks;
     probe p = { .stack = mmap(0, STACK, PROT_READ | PROT_WRITE, MAP_PRIVATE | MAP_ANONYMOUS, -1, 0),
                 .buffer = malloc(ROOM), .states = malloc(MOST_STATES * sizeof(uint64_t)) };
@@ -157,6 +160,10 @@ void probe_stacks(results *r)
     }
     for (int i = 0; i < longest->count; i += 20)
         probe_question(&p, &longest->questions[i], stacks);
+    for (int i = 0; i < repeats->count; i += 20) {
+        p.question = &repeats->questions[i];
+        note(&stacks[SPELL], &p, SPELL);
+    }
     free(p.buffer);
     free(p.states);
     munmap(p.stack, STACK);
