@@ -16,7 +16,7 @@ ghost use Rattle.calculus.specs.Bytes.{question};
 ghost use Rattle.calculus.specs.Reading.{accepted, reading};
 ghost use Rattle.calculus.specs.Truth.{Valid};
 ghost use Rattle.calculus.specs.Derivation.{Derivation};
-ghost use Rattle.calculus.specs.Reply.{decideReply, widthReply, formulaPart, formulaBytes, derive, checkReply, listStates};
+ghost use Rattle.calculus.specs.Reply.{decideReply, widthReply, formulaPart, formulaBytes, derive, checkReply, listStates, spell};
 ghost use Rattle.question.specs.Answers.{numberOf, placeOf};
 ghost use Rattle.question.specs.Positions.{partBytes, partAt};
 ghost use Rattle.width.specs.Answers.{widthOf, Sized};
@@ -26,6 +26,8 @@ ghost use Rattle.writer.specs.Answers.{unproved, answerOf, Evidence};
 ghost use Rattle.checker.specs.Answers.{faultNumber, faultPlace, checkOf};
 ghost use Rattle.states.specs.Answers.{listingOf, Lists};
 ghost use Rattle.states.specs.declared.Listing.the-variants.{Listed};
+ghost use Rattle.spelling.specs.Answers.{spellingOf, Spells};
+ghost use Rattle.spelling.specs.declared.Spelling.the-variants.{Spelled};
 ghost use Rattle.writer.specs.declared.Writing.the-variants.{Written};
 ghost use Rattle.checker.specs.declared.Checking.the-variants.{Passes};
 ghost use Rattle.gekunday.specs.Words.{filled, Holds, kindNumber, refutedWord, stateWord, decideWords, partWords};
@@ -87,7 +89,16 @@ pub fn refuting_states(q: &[u8], list: &mut [u64]) -> states::Listing
     states::refuting_states(q, list)
 }
 
-// The numbers for a run that came to no verdict, and for a derivation or a list that is not written.
+// Writes the standard spelling of a question.
+pub fn spell(q: &[u8], buffer: &mut [u8]) -> spelling::Spelling
+    ensures reply { λ r. ⌜ spellingOf r ≡ spell (now (q .entry)) (now (buffer .entry)) .reply ⌝ }
+    ensures written { λ r. ⌜ now (buffer .exit) ≡ spell (now (q .entry)) (now (buffer .entry)) .buffer ⌝ }
+    ensures one { λ r. ⌜ ((n : ℕ) → r ≡ Spelled n → Spells (now (q .entry)) (take n (now (buffer .exit)))) ⌝ }
+{
+    spelling::spell(q, buffer)
+}
+
+// The numbers for a run that came to no verdict, and for a derivation, a list or a spelling that is not written.
 const FULL: u32 = 8;
 
 const SPENT: u32 = 9;
@@ -216,6 +227,16 @@ fn listing_words(a: states::Listing) -> Words
         states::Listing::ManyLetters(n) => placed(MANY_LETTERS, n),
         states::Listing::NoSpace(n) => placed(NO_SPACE, n),
         states::Listing::Listed(n) => placed(0, n),
+    }
+}
+
+fn spelling_words(a: spelling::Spelling) -> Words
+    ensures { λ w. ⌜ Holds (spellingOf a) w ⌝ }
+{
+    match a {
+        spelling::Spelling::Refused(r) => refusal_words(r),
+        spelling::Spelling::NoSpace(n) => placed(NO_SPACE, n),
+        spelling::Spelling::Spelled(n) => placed(0, n),
     }
 }
 
@@ -348,4 +369,16 @@ pub extern "C" fn gekunday_states(q: &[u8], list: &mut [u64], out: &mut [u64; 1]
     let l = listing_words(states::refuting_states(q, list));
     *out = [l.first];
     l.number
+}
+
+// Writes the standard spelling of a question.
+#[no_mangle]
+pub extern "C" fn gekunday_spell(q: &[u8], buffer: &mut [u8], out: &mut [u64; 1]) -> u32
+    ensures number { λ r. ⌜ r ≡ spell (now (q .entry)) (now (buffer .entry)) .reply .number ⌝ }
+    ensures words { λ r. ⌜ now (out .exit) ≡ filled 1 (spell (now (q .entry)) (now (buffer .entry)) .reply .values) ⌝ }
+    ensures written { λ r. ⌜ now (buffer .exit) ≡ spell (now (q .entry)) (now (buffer .entry)) .buffer ⌝ }
+{
+    let w = spelling_words(spelling::spell(q, buffer));
+    *out = [w.first];
+    w.number
 }
