@@ -7,8 +7,8 @@ use Rattle.calculus.specs.declared.Kind.the-variants.{Full}
 use Rattle.calculus.specs.Syntax.{AND, letter, join, Sequent}
 use Rattle.calculus.specs.Bytes.{encodeSequent}
 use Rattle.calculus.specs.States.{from}
-use Rattle.calculus.specs.Reply.{Reply, verdictReply, decideReply, derive, checkReply, listStates}
-use Rattle.calculus.specs.Starred.{large, failing}
+use Rattle.calculus.specs.Reply.{Reply, verdictReply, decideReply, derive, checkReply, listStates, spell}
+use Rattle.calculus.specs.Starred.{large, failing, repeated}
 
 pub record Row : Type 0 where
   pub replied : Reply
@@ -26,6 +26,9 @@ written q = derive q large [] .reply
 
 abbrev listed : List ℕ → Reply
 listed q = listStates q [] .reply
+
+abbrev spelled : List ℕ → Reply
+spelled q = spell q [] .reply
 
 -- P left, P right; the sequent with no formulas; P left alone
 abbrev theorem : List ℕ
@@ -77,6 +80,9 @@ numbers =
     ∷ row (written theorem) 11 (2 ∷ [])
     -- number of states: 11 NO SPACE, the lent slice is shorter than the list of refuting states (document 02, a)
     ∷ row (listed empty) 11 (1 ∷ [])
+    -- length needed: 11 NO SPACE, the lent buffer is shorter than the spelling, after the reading refusals (document 02, e)
+    ∷ row (spelled repeated) 11 (9 ∷ [])
+    ∷ row (spelled (0x10 ∷ [])) 2 (1 ∷ [])
     -- that number: 12 MANY LAMPS, more than 16 different lamps occur (document 02, a)
     ∷ row (listed (encodeSequent seventeen)) 12 (17 ∷ [])
     -- up to 64 of them (document 02, d)

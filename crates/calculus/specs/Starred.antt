@@ -1,6 +1,6 @@
--- "Questions tried by hand": the starred ones, as one table.
+-- "Questions tried by hand": the starred ones, as one table, and what document 02's requests ask of questions tried so.
 use mathlib.Core.Option.{Option, none, some}
-use mathlib.Core.List.{List, [], _∷_}
+use mathlib.Core.List.{List, [], _∷_, _++_}
 use Prim.Native.Nat.{ℕ}
 use Rattle.calculus.specs.declared.Kind.{Kind}
 use Rattle.calculus.specs.declared.Kind.the-variants.{Theorem, Refuted, Spent}
@@ -59,4 +59,45 @@ refutations =
     ∷ (3 ∷ [])
     ∷ (3 ∷ [])
     ∷ []
+    ∷ []
+
+-- ---- questions and their standard spellings, worked out by hand (document 02, e)
+
+pub record Spelt : Type 0 where
+  pub asked : List ℕ
+  pub spelt : List ℕ
+
+-- as formulas stand on a left side
+abbrev leftOnly : ℕ → List ℕ → List ℕ
+leftOnly n fs = 0x10 ∷ n ∷ (fs ++ (0x20 ∷ 0x00 ∷ []))
+
+-- P OR Q, twice
+abbrev pub repeated : List ℕ
+repeated = leftOnly 2 (0x04 ∷ 0x01 ∷ 0x00 ∷ 0x01 ∷ 0x01 ∷ 0x04 ∷ 0x01 ∷ 0x00 ∷ 0x01 ∷ 0x01 ∷ [])
+
+abbrev pub spellings : List Spelt
+spellings =
+    -- no formulas
+    record { asked = leftOnly 0 []; spelt = leftOnly 0 [] }
+    -- ascending, each side by itself
+    ∷ record {
+      asked = 0x10 ∷ 0x02 ∷ 0x01 ∷ 0x02 ∷ 0x01 ∷ 0x01 ∷ 0x20 ∷ 0x02 ∷ 0x01 ∷ 0x04 ∷ 0x01 ∷ 0x03 ∷ [];
+      spelt = 0x10 ∷ 0x02 ∷ 0x01 ∷ 0x01 ∷ 0x01 ∷ 0x02 ∷ 0x20 ∷ 0x02 ∷ 0x01 ∷ 0x03 ∷ 0x01 ∷ 0x04 ∷ [];
+    }
+    -- equal ones once, and the counts with them
+    ∷ record {
+      asked = 0x10 ∷ 0x03 ∷ 0x01 ∷ 0x02 ∷ 0x01 ∷ 0x01 ∷ 0x01 ∷ 0x02 ∷ 0x20 ∷ 0x02 ∷ 0x01 ∷ 0x02 ∷ 0x01 ∷ 0x02 ∷ [];
+      spelt = 0x10 ∷ 0x02 ∷ 0x01 ∷ 0x01 ∷ 0x01 ∷ 0x02 ∷ 0x20 ∷ 0x01 ∷ 0x01 ∷ 0x02 ∷ [];
+    }
+    -- the first byte that differs decides, not the last
+    ∷ record {
+      asked = leftOnly 2 (0x03 ∷ 0x01 ∷ 0x05 ∷ 0x01 ∷ 0x01 ∷ 0x03 ∷ 0x01 ∷ 0x04 ∷ 0x01 ∷ 0x09 ∷ []);
+      spelt = leftOnly 2 (0x03 ∷ 0x01 ∷ 0x04 ∷ 0x01 ∷ 0x09 ∷ 0x03 ∷ 0x01 ∷ 0x05 ∷ 0x01 ∷ 0x01 ∷ []);
+    }
+    -- nor the length: six bytes before five
+    ∷ record {
+      asked = leftOnly 2 (0x03 ∷ 0x01 ∷ 0x00 ∷ 0x01 ∷ 0x01 ∷ 0x02 ∷ 0x02 ∷ 0x02 ∷ 0x02 ∷ 0x01 ∷ 0x00 ∷ []);
+      spelt = leftOnly 2 (0x02 ∷ 0x02 ∷ 0x02 ∷ 0x02 ∷ 0x01 ∷ 0x00 ∷ 0x03 ∷ 0x01 ∷ 0x00 ∷ 0x01 ∷ 0x01 ∷ []);
+    }
+    ∷ record { asked = repeated; spelt = leftOnly 1 (0x04 ∷ 0x01 ∷ 0x00 ∷ 0x01 ∷ 0x01 ∷ []) }
     ∷ []
