@@ -378,7 +378,7 @@ pub extern "C" fn gekunday_spell(q: &[u8], buffer: &mut [u8], out: &mut [u64; 1]
     ensures words { λ r. ⌜ now (out .exit) ≡ filled 1 (spell (now (q .entry)) (now (buffer .entry)) .reply .values) ⌝ }
     ensures written { λ r. ⌜ now (buffer .exit) ≡ spell (now (q .entry)) (now (buffer .entry)) .buffer ⌝ }
 {
-    let w = spelling_words(spelling::spell(q, buffer));
-    *out = [w.first];
-    w.number
+    let s = spelling_words(spelling::spell(q, buffer));
+    *out = [s.first];
+    s.number
 }

@@ -3,7 +3,7 @@
 use mathlib.Core.Path.{_≡_, refl, sym, ap, _∙_}
 use mathlib.Core.Bool.{Bool, true, _||_, or-assoc, or-comm, or-false}
 use mathlib.Core.List.{List}
-use Prim.Native.Nat.{ℕ, _+_, _^_, _≤_, _<_}
+use Prim.Native.Nat.{ℕ, _+_, _-_, _^_, _≤_, _<_}
 use native.Mathlib.Omega.{arith}
 use lib.Bits.{bitOr, or-comm as bit-or-comm}
 use lib.Dec.{eqb}
@@ -18,8 +18,8 @@ use Rattle.calculus.specs.States.{occurs}
 use Rattle.calculus.proofs.Folds.{or-left, or-right}
 use Rattle.calculus.proofs.Letters.{occurs-all}
 use Rattle.calculus.proofs.Trees.{bit-light, light-or}
-use Rattle.question.specs.Positions.{commandLength, dueAfter, names, Marks}
-use Rattle.question.proofs.Walks.{Stepped, walked-at, well-inside}
+use Rattle.question.specs.Positions.{Reached, Marks}
+use Rattle.question.proofs.Walks.{Passed, passed-letter}
 
 -- one letter more
 pub bit-marked : (set k m : ℕ) → bit m (bitOr set (2 ^ k)) ≡ (bit m set || eqb m k)
@@ -41,25 +41,32 @@ module _ (q : List ℕ) (all : List Formula) (first set i d : ℕ) (a : Marking 
       let z : d ≡ 0 = omega arith in
       sym (or-false (bit k set)) ∙ rw z at (a .same k)
 
-  pub record Marked : Type 0 where
-    pub step : Stepped q i d
-    pub inside : i + 1 < length q
-    pub letter : getD q i 0 ≡ 1 → getD q (i + 1) 0 < LETTERS
-    pub next : (r : ℕ) → ((k : ℕ) → bit k r ≡ (bit k set || names (getD q i 0) (getD q (i + 1) 0) k)) → Marking q all first r (i + commandLength (getD q i 0)) (dueAfter d (getD q i 0))
+  -- at the next letter
+  pub marking-reached : (j e : ℕ) → Reached q i d j e → Marking q all first set j e
+  marking-reached j e r =
+      record {
+        due = r .due;
+        below = λ k h. a .below k (sym (r .letters k) ∙ h);
+        same = λ k. ap (λ (x : Bool). bit k set || x) (r .letters k) ∙ a .same k;
+      }
 
-  pub marking-next : 0 < d → Marked
-  marking-next h =
-      let w = walked-at q i d h (a .due) in
-      let b = getD q i 0 in
+  -- past it
+  pub record Marked : Type 0 where
+    pub step : Passed q i d
+    pub letter : getD q (i + 1) 0 < LETTERS
+    pub next : (r : ℕ) → ((k : ℕ) → bit k r ≡ (bit k set || eqb k (getD q (i + 1) 0))) → Marking q all first r (i + 2) (d - 1)
+
+  pub marking-next : 1 ≤ d → getD q i 0 ≡ 1 → Marked
+  marking-next h e =
+      let w = passed-letter q i d h (a .due) e in
       let m = getD q (i + 1) 0 in
-      let ahead : ℕ → Bool = λ k. fold ANY (occurs k) (take (dueAfter d b) (formulas (drop (i + commandLength b) q))) in
+      let ahead : ℕ → Bool = λ k. fold ANY (occurs k) (take (d - 1) (formulas (drop (i + 2) q))) in
       record {
         step = w;
-        inside = well-inside q i (omega (arith, a .due));
-        letter = λ e. a .below m (w .letters m ∙ or-left (names b m m) (ahead m) (rw (e, eq-eqb m m refl)));
+        letter = a .below m (w .letters m ∙ or-left (eqb m m) (ahead m) (eq-eqb m m refl));
         next = λ r f. record {
           due = w .due;
-          below = λ k e. a .below k (w .letters k ∙ or-right (names b m k) (ahead k) e);
-          same = λ k. ap (λ (x : Bool). x || ahead k) (f k) ∙ or-assoc (bit k set) (names b m k) (ahead k) ∙ ap (λ (x : Bool). bit k set || x) (sym (w .letters k)) ∙ a .same k;
+          below = λ k l. a .below k (w .letters k ∙ or-right (eqb k m) (ahead k) l);
+          same = λ k. ap (λ (x : Bool). x || ahead k) (f k) ∙ or-assoc (bit k set) (eqb k m) (ahead k) ∙ ap (λ (x : Bool). bit k set || x) (sym (w .letters k)) ∙ a .same k;
         };
       }

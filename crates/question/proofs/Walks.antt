@@ -1,22 +1,23 @@
 -- Formulas at positions: what stands behind n formulas, and what a walk over commands passes.
 -- Assumes nothing.
 use mathlib.Core.Path.{_≡_, refl, sym, ap, _∙_}
-use mathlib.Core.Bool.{false, _||_, or-assoc}
+use mathlib.Core.Bool.{Bool, true, false, _||_, or-assoc}
 use mathlib.Core.Option.{Option, none, some}
 use mathlib.Core.List.{List, [], _∷_, append-assoc, append-nil}
-use Prim.Native.Nat.{ℕ, zero, suc, _+_, _≤_, _<_}
+use Prim.Native.Nat.{ℕ, zero, suc, _+_, _-_, _≤_, _<_}
 use native.Mathlib.Numerals.{add-one, one-add}
 use native.Mathlib.Nat.{add-zero}
 use native.Mathlib.Omega.{arith}
 use lib.Dec.{eqb}
 use lib.ListN.{length, take, drop, getD, length-drop}
 use lib.Seq.{drop-drop, getD-drop}
-use Rattle.calculus.specs.Fold.{fold, ANY}
+use borrow.Author.Tests.{ne-eqb}
+use Rattle.calculus.specs.Fold.{fold, ANY, choose}
 use Rattle.calculus.specs.Syntax.{Binary, AND, OR, IMPLIES, EQUIV, Connective, NOT, two, Formula, letter, neg, join}
 use Rattle.calculus.specs.Bytes.{Command, SIDE, LETTER, CONNECTIVE, code, command, encode, encodeAll, attach, spell, formulas, bytes, bytesAll}
 use Rattle.calculus.specs.States.{occurs}
 use Rattle.calculus.proofs.Spelling.{command-byte}
-use Rattle.question.specs.Positions.{Well, firstOf, endOf, commandLength, dueAfter, names}
+use Rattle.question.specs.Positions.{Well, firstOf, endOf, commandLength, dueAfter, names, Reached}
 
 -- ---- one command of a list of bytes that spells more than m formulas
 
@@ -189,6 +190,60 @@ walked-at q i (suc m) h k =
       due = rw e at (w .due);
       sizes = omega (arith, rw e at (w .sizes));
       letters = λ j. rw (getD-drop i q 0 0, add-zero i, getD-drop i q 1 0, e) at (w .letters j);
+    }
+
+-- ---- letter by letter
+
+pub reached-first : (q : List ℕ) (i d : ℕ) → 1 ≤ d → d ≤ length (formulas (drop i q)) → Reached q i d i d
+reached-first q i d h k = record { onward = omega arith; some = h; due = k; sizes = refl; letters = λ j. refl }
+
+some-after : (e b : ℕ) → 1 ≤ e → eqb b 1 ≡ false → 1 ≤ dueAfter e b
+some-after e b h k = rw k (go (eqb b 2))
+  where
+    go : (t : Bool) → 1 ≤ choose t e (e + 1)
+    go true = h
+    go false = omega arith
+
+module _ (q : List ℕ) (i d j e : ℕ) (a : Reached q i d j e) where
+  step : Stepped q j e
+  step = walked-at q j e (a .some) (a .due)
+
+  pub reached-inside : (j < length q) × (e ≤ length q)
+  reached-inside = (step .inside, step .small)
+
+  pub reached-next : (getD q j 0 ≡ 1 → ⊥) → Reached q i d (j + 1) (dueAfter e (getD q j 0))
+  reached-next h =
+      let z : eqb (getD q j 0) 1 ≡ false = ne-eqb (getD q j 0) 1 h in
+      let n : commandLength (getD q j 0) ≡ 1 = rw z in
+      record {
+        onward = omega (arith, a .onward);
+        some = some-after e (getD q j 0) (a .some) z;
+        due = rw n at (step .due);
+        sizes = (rw n at (step .sizes)) ∙ a .sizes;
+        letters = λ k.
+            let o : names (getD q j 0) (getD q (j + 1) 0) k ≡ false = rw z in
+            sym (rw (n, o) at (step .letters k)) ∙ a .letters k;
+      }
+
+-- a letter, with d formulas due from it on
+pub record Passed (q : List ℕ) (i d : ℕ) : Type 0 where
+  pub inside : i + 2 ≤ length q
+  pub small : d ≤ length q
+  pub due : d - 1 ≤ length (formulas (drop (i + 2) q))
+  pub sizes : i + 2 + bytesAll (take (d - 1) (formulas (drop (i + 2) q))) ≡ i + bytesAll (take d (formulas (drop i q)))
+  pub letters : (k : ℕ) → fold ANY (occurs k) (take d (formulas (drop i q))) ≡ (eqb k (getD q (i + 1) 0) || fold ANY (occurs k) (take (d - 1) (formulas (drop (i + 2) q))))
+
+pub passed-letter : (q : List ℕ) (i d : ℕ) → 1 ≤ d → d ≤ length (formulas (drop i q)) → getD q i 0 ≡ 1 → Passed q i d
+passed-letter q i d h k e =
+    let w = walked-at q i d h k in
+    let n : commandLength (getD q i 0) ≡ 2 = rw e in
+    let m : dueAfter d (getD q i 0) ≡ d - 1 = rw e in
+    record {
+      inside = omega (arith, w .fits, n);
+      small = w .small;
+      due = rw (n, m) at (w .due);
+      sizes = rw (n, m) at (w .sizes);
+      letters = λ j. rw (n, m, e) at (w .letters j);
     }
 
 -- ---- formulas end within the bytes

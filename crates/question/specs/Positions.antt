@@ -8,7 +8,7 @@ use lib.ListN.{length, take, drop}
 use Rattle.calculus.specs.declared.Part.{Part}
 use Rattle.calculus.specs.Fold.{fold, ANY, choose}
 use Rattle.calculus.specs.Syntax.{Formula, letter}
-use Rattle.calculus.specs.Bytes.{formulas, bytes}
+use Rattle.calculus.specs.Bytes.{formulas, bytes, bytesAll}
 use Rattle.calculus.specs.Truth.{bit}
 use Rattle.calculus.specs.States.{occurs}
 
@@ -40,6 +40,14 @@ dueAfter d b = choose (eqb b 1) (d - 1) (choose (eqb b 2) d (d + 1))
 -- a command with the byte behind it names letter k
 abbrev pub names : ℕ → ℕ → ℕ → Bool
 names b m k = eqb b 1 && eqb k m
+
+-- d formulas from position i on, and e from position j on: connectives alone lie between
+pub record Reached (q : List ℕ) (i d j e : ℕ) : Type 0 where
+  pub onward : i ≤ j
+  pub some : 1 ≤ e
+  pub due : e ≤ length (formulas (drop j q))
+  pub sizes : j + bytesAll (take e (formulas (drop j q))) ≡ i + bytesAll (take d (formulas (drop i q)))
+  pub letters : (k : ℕ) → fold ANY (occurs k) (take e (formulas (drop j q))) ≡ fold ANY (occurs k) (take d (formulas (drop i q)))
 
 -- r is a set of letters with those of formulas
 abbrev pub Marks : List Formula → ℕ → ℕ → Type 0

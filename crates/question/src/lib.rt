@@ -7,6 +7,7 @@ ghost use mathlib.Core.Path.{_≡_};
 ghost use Prim.Native.Nat.{ℕ, _+_, _-_, _^_, _≤_, _<_};
 ghost use mathlib.Core.List.{List};
 ghost use mathlib.Core.Bool.{false, _||_};
+ghost use lib.Dec.{eqb};
 ghost use lib.ListN.{length, take, drop, getD};
 ghost use Rattle.calculus.specs.Fold.{Each};
 ghost use Rattle.calculus.specs.Limits.{LONGEST, FORMULAS, LETTERS};
@@ -17,7 +18,7 @@ ghost use Rattle.calculus.specs.Truth.{bit};
 ghost use Rattle.calculus.specs.Reply.{formulaPart, formulaBytes};
 ghost use Rattle.question.specs.Answers.{numberOf, placeOf, readingOf};
 ghost use Rattle.question.specs.Answers.{expectedOf, done, Standing, Onwards, readFrom, steps};
-ghost use Rattle.question.specs.Positions.{Well, endOf, commandLength, dueAfter, names, Marks, partBytes, partAt};
+ghost use Rattle.question.specs.Positions.{Well, endOf, dueAfter, Reached, Marks, partBytes, partAt};
 
 // The limits of document 01.
 pub const LONGEST_QUESTION: usize = 212;
@@ -274,25 +275,27 @@ pub struct Walk {
     pub due: usize,
 }
 
-// The walk past the command b.
-fn passed(w: Walk, b: u8) -> Walk
-    requires { ⌜ (1 ≤ w .due) × (w .due < 2 ^ 63) × (w .at < 2 ^ 63) ⌝ }
-    ensures { λ r. ⌜ (r .at ≡ w .at + commandLength b) × (r .due ≡ dueAfter (w .due) b) ⌝ }
+// The formulas due after a connective.
+fn due_after(d: usize, b: u8) -> usize
+    requires { ⌜ (d < 2 ^ 63) × (b ≡ 1 → ⊥) ⌝ }
+    ensures { λ r. ⌜ r ≡ dueAfter d b ⌝ }
 {
-    match b {
-        1 => Walk {
-            at: w.at + 2,
-            due: w.due - 1,
-        },
-        2 => Walk {
-            at: w.at + 1,
-            due: w.due,
-        },
-        _ => Walk {
-            at: w.at + 1,
-            due: w.due + 1,
-        },
+    if b == 2 { d } else { d + 1 }
+}
+
+// The walk up to the next letter.
+fn to_letter(q: &[u8], w: Walk) -> Walk
+    requires { ⌜ (1 ≤ w .due) × (w .due ≤ length (formulas (drop (w .at) (now q)))) ⌝ }
+    ensures { λ r. ⌜
+        Reached (now (q .entry)) (w .at) (w .due) (r .at) (r .due) × (getD (now (q .entry)) (r .at) 0 ≡ code LETTER) ⌝ }
+{
+    let mut i = w.at;
+    let mut due = w.due;
+    while q[i] != 1 {
+        due = due_after(due, q[i]);
+        i += 1;
     }
+    Walk { at: i, due: due }
 }
 
 // The position behind n formulas that stand one after the other from a position on.
@@ -302,8 +305,11 @@ pub fn skip(q: &[u8], at: usize, n: usize) -> usize
 {
     let mut w = Walk { at: at, due: n };
     while 0 < w.due {
-        let i = w.at;
-        w = passed(w, q[i]);
+        let l = to_letter(q, w);
+        w = Walk {
+            at: l.at + 2,
+            due: l.due - 1,
+        };
     }
     w.at
 }
@@ -316,15 +322,12 @@ pub fn end_of(q: &[u8], at: usize) -> usize
     skip(q, at, 1)
 }
 
-// A set of letters, letter k as bit k, with the one that a command and the byte behind it name.
-fn marked(set: u64, b: u8, k: u8) -> u64
-    requires { ⌜ (b ≡ 1 → k < LETTERS) ⌝ }
-    ensures { λ r. ⌜ ((m : ℕ) → bit m r ≡ (bit m set || names b k m)) ⌝ }
+// A set of letters, letter k as bit k, with one more.
+fn marked(set: u64, k: u8) -> u64
+    requires { ⌜ k < LETTERS ⌝ }
+    ensures { λ r. ⌜ ((m : ℕ) → bit m r ≡ (bit m set || eqb m k)) ⌝ }
 {
-    if b == 1 {
-        return set | 1 << k;
-    }
-    set
+    set | 1 << k
 }
 
 // A set with the letters of n formulas that stand one after the other from a position on.
@@ -336,10 +339,13 @@ pub fn letters(q: &[u8], at: usize, n: usize, set: u64) -> u64
     let mut all = set;
     let mut w = Walk { at: at, due: n };
     while 0 < w.due {
-        let i = w.at;
-        let b = q[i];
-        all = marked(all, b, q[i + 1]);
-        w = passed(w, b);
+        let l = to_letter(q, w);
+        let operand = l.at + 1;
+        all = marked(all, q[operand]);
+        w = Walk {
+            at: l.at + 2,
+            due: l.due - 1,
+        };
     }
     all
 }

@@ -6,12 +6,12 @@ use Prim.Native.Nat.{_+_, _-_, _≤_}
 use native.Mathlib.Omega.{arith}
 use lib.ListN.{length, take, drop}
 use Rattle.calculus.specs.Bytes.{formulas, bytesAll}
-use Rattle.question.proofs.Walks.{Stepped, walked-at}
+use Rattle.question.proofs.Walks.{Passed, passed-letter}
 use Rattle.question.proofs.skip.Statement.{statement}
 use Rattle.question.proofs.skip.Tie as tie
 use Rattle.question.proofs.skip.Lts as lts
 use Rattle.question.proofs.skip.Reads as reads
-use Rattle.question.proofs.passed.Reads as passed-reads
+use Rattle.question.proofs.to_letter.Reads as to-letter-reads
 
 abbrev Inv-loop : tie.InvT-loop
 Inv-loop q at n w₀ w =
@@ -21,12 +21,12 @@ Inv-loop q at n w₀ w =
 abbrev μ-loop : tie.MeasureT-loop
 μ-loop q at n w₀ w = length q - w .at
 
--- the command at the loop's byte
-step-here : (c : lts.After-shared-slice-known2 (passed-reads.Asked, passed-reads.Learnt) reads.Pre reads.Post Inv-loop μ-loop) →
-    Stepped (c .before .before .before .before .before .args .q .now) (c .before .before .before .loop .w .at) (c .before .before .before .loop .w .due)
-step-here c =
-    let l = c .before .before .before .loop in
-    walked-at (c .before .before .before .before .before .args .q .now) (l .w .at) (l .w .due) (c .before .if1 .taken) (l .inv .0)
+-- the letter that is reached
+letter-here : (c : lts.After-to-letter (to-letter-reads.Asked, to-letter-reads.Learnt) reads.Pre reads.Post Inv-loop μ-loop) →
+    Passed (c .before .before .before .before .before .args .q .now) (c .to-letter .result .at) (c .to-letter .result .due)
+letter-here c =
+    let r = c .to-letter .ensures in
+    passed-letter (c .before .before .before .before .before .args .q .now) (c .to-letter .result .at) (c .to-letter .result .due) (r .0 .some) (r .0 .due) (r .1)
 
 pub skip-spec : {M : Type 1} → statement M
 skip-spec =
@@ -35,10 +35,13 @@ skip-spec =
     Inv-loop
     μ-loop
     (λ c. (c .before .pre, refl))
-    (λ c. step-here c .inside)
-    (λ c κs. omega (arith, c .before .if1 .taken, step-here c .small, step-here c .inside))
-    (λ c. let w = step-here (c .before) in omega (arith, w .onward, w .inside, c .passed .ensures .0))
-    (λ c. let w = step-here (c .before) in rw (c .passed .ensures .0, c .passed .ensures .1) (w .due, w .sizes ∙ c .before .before .before .before .loop .inv .1))
+    (λ c κs. (c .if1 .taken, c .before .before .loop .inv .0))
+    (λ c. omega (arith, letter-here (c .before) .inside))
+    (λ c. omega (arith, c .before .before .to-letter .ensures .0 .some))
+    (λ c. omega (arith, c .before .before .to-letter .ensures .0 .onward, letter-here (c .before .before) .inside))
+    (λ c.
+    let w = letter-here (c .before .before) in
+    (w .due, w .sizes ∙ (c .before .before .to-letter .ensures .0 .sizes ∙ c .before .before .before .before .before .loop .inv .1)))
     (λ c.
     let l = c .before .before .loop in
     let z : l .w .due ≡ 0 = omega arith in
