@@ -1,9 +1,9 @@
 -- The standard spelling: a side arranged has the same formulas, each once, ascending by their bytes, and is the only such list. So two
 -- questions spell alike exactly if each side has the same set of formulas; what is accepted, and true, stays so.
 -- Assumes nothing.
-use mathlib.Core.Path.{_≡_, refl, sym, ap, _∙_}
+use mathlib.Core.Path.{_≡_, refl, sym, ap, _∙_, fun-ext}
 use mathlib.Core.Logic.{_↔_}
-use mathlib.Core.Bool.{Bool, true, false, _||_, or-assoc, or-comm, or-true, false≢true}
+use mathlib.Core.Bool.{Bool, true, false, not, _||_, or-assoc, or-comm, or-true, false≢true}
 use mathlib.Core.List.{List, [], _∷_, _++_, map}
 use Prim.Native.Nat.{ℕ, suc, _+_, _≤_, _<_}
 use native.Mathlib.Decide.{decLt}
@@ -16,11 +16,12 @@ use Rattle.calculus.specs.declared.Side.the-variants.{Left, Right}
 use Rattle.calculus.specs.declared.Comparison.{Comparison}
 use Rattle.calculus.specs.declared.Comparison.the-variants.{Less, Equal, Greater}
 use Rattle.calculus.specs.Fold.{fold, ANY, SUM, Each}
-use Rattle.calculus.specs.Limits.{Limits}
+use Rattle.calculus.specs.Limits.{Limits, LETTERS}
 use Rattle.calculus.specs.Syntax.{Formula, Sequent, on-side, connectives}
 use Rattle.calculus.specs.Bytes.{encode, encodeAll, encodeSide, encodeSequent, same, bytes, bytesAll, question, LetteredUnder, WithinUnder}
 use Rattle.calculus.specs.Reading.{accepted, readingUnder}
 use Rattle.calculus.specs.Truth.{says, truth, Valid}
+use Rattle.calculus.specs.States.{occurs, occursIn, from, filter, lettersUnder, lettersIn, statesOver, refutingOver, refuting}
 use Rattle.calculus.specs.Standard.{compareByte, firstly, compare, place, insert, arranged, standard, spelling, stands, SameSets, AscendsByBytes}
 use Rattle.calculus.proofs.Folds.{or-elim, not-so, each, any-false}
 use Rattle.calculus.proofs.Spelling.{same-eq, same-self, encode-injective, question-encode}
@@ -268,6 +269,17 @@ standard-truth S σ = rw (any-arranged (says σ Left) (S .on-left), any-arranged
 
 pub standard-valid : (S : Sequent) → Valid (standard S) ↔ Valid S
 standard-valid S = (λ h σ. sym (standard-truth S σ) ∙ h σ, λ h σ. standard-truth S σ ∙ h σ)
+
+-- so the refuting states stay, over the same letters
+standard-occurs : (S : Sequent) (k : ℕ) → occursIn k (standard S) ≡ occursIn k S
+standard-occurs S k = rw (any-arranged (occurs k) (S .on-left), any-arranged (occurs k) (S .on-right))
+
+pub standard-refuting : (S : Sequent) → refuting (standard S) ≡ refuting S
+unfolding lettersUnder
+standard-refuting S =
+    let ks : lettersIn (standard S) ≡ lettersIn S = ap (λ (t : ℕ → Bool). filter t (from 0 LETTERS)) (fun-ext (λ k. standard-occurs S k)) in
+    ap (λ (t : ℕ → Bool). filter t (statesOver (lettersIn (standard S)))) (fun-ext (λ σ. ap not (standard-truth S σ)))
+    ∙ ap (λ (l : List ℕ). refutingOver l S) ks
 
 -- ---- the spelling
 
