@@ -3,12 +3,11 @@
 -- Assumes nothing.
 use mathlib.Core.Path.{_≡_, refl, sym, ap, _∙_, fun-ext}
 use mathlib.Core.Logic.{_↔_}
-use mathlib.Core.Bool.{Bool, true, false, not, _||_, or-assoc, or-comm, or-true, false≢true}
+use mathlib.Core.Bool.{Bool, true, false, not, _||_, or-assoc, or-comm, false≢true}
 use mathlib.Core.List.{List, [], _∷_, _++_, map}
-use Prim.Native.Nat.{ℕ, suc, _+_, _≤_, _<_}
+use Prim.Native.Nat.{ℕ, _+_, _≤_, _<_}
 use native.Mathlib.Decide.{decLt}
 use native.Mathlib.Omega.{arith}
-use lib.Dec.{ltb}
 use lib.ListN.{length, length-append}
 use borrow.Author.Tests.{lt-ltb, le-ltb}
 use Rattle.calculus.specs.declared.Side.{Side}
@@ -23,7 +22,7 @@ use Rattle.calculus.specs.Reading.{accepted, readingUnder}
 use Rattle.calculus.specs.Truth.{says, truth, Valid}
 use Rattle.calculus.specs.States.{occurs, occursIn, from, filter, lettersUnder, lettersIn, statesOver, refutingOver, refuting}
 use Rattle.calculus.specs.Standard.{compareByte, firstly, compare, place, insert, arranged, standard, spelling, stands, SameSets, AscendsByBytes}
-use Rattle.calculus.proofs.Folds.{or-elim, not-so, each, any-false}
+use Rattle.calculus.proofs.Folds.{or-elim, not-so, each}
 use Rattle.calculus.proofs.Spelling.{same-eq, same-self, encode-injective, question-encode}
 use Rattle.calculus.proofs.Readings.{question-under, exactly-under}
 

@@ -2,11 +2,10 @@
 -- Assumes nothing.
 use mathlib.Core.Path.{_≡_, refl, sym, ap, _∙_}
 use mathlib.Core.List.{List, [], _∷_, _++_, map, append-assoc, append-nil}
-use Prim.Native.Nat.{ℕ, zero, _+_, _-_, _≤_, _<_}
+use Prim.Native.Nat.{ℕ, _+_, _-_, _≤_, _<_}
 use native.Mathlib.Nat.{add-zero}
 use native.Mathlib.Omega.{arith}
 use lib.ListN.{length, take, drop, length-append}
-use Rattle.calculus.specs.Fold.{Each}
 use Rattle.calculus.specs.Limits.{FORMULAS}
 use Rattle.calculus.specs.Syntax.{Formula}
 use Rattle.calculus.specs.Bytes.{encode, encodeAll, formulas, bytes, bytesAll}
@@ -16,7 +15,7 @@ use Rattle.question.specs.Positions.{Well, formulaAt, endOf}
 use Rattle.question.proofs.Walks.{end-inside}
 use Rattle.question.proofs.Parts.{NextDue, next-due, end-onward}
 use Rattle.question.proofs.Questions.{own-bytes}
-use Rattle.spelling.specs.Places.{startIn, endIn, Inside, bytesAt, Listed, Stand}
+use Rattle.spelling.specs.Places.{startIn, endIn, Inside, bytesAt, Stand}
 
 -- `done` are read, and their places stand in the first n items; due more stand from position i on
 pub record Arranging (q : List ℕ) (at count : ℕ) (items : List ℕ) (n i due : ℕ) : Type 0 where

@@ -7,13 +7,12 @@ use Prim.Native.Nat.{ℕ, _≤_, _<_}
 use native.Mathlib.Omega.{arith}
 use lib.ListN.{length, take, drop}
 use lib.Seq.{sets, take-at}
-use Rattle.calculus.specs.declared.Side.{Side}
 use Rattle.calculus.specs.Limits.{LIMITS, NO-SPACE}
-use Rattle.calculus.specs.Syntax.{Sequent, on-side}
+use Rattle.calculus.specs.Syntax.{Sequent}
 use Rattle.calculus.specs.Bytes.{question}
 use Rattle.calculus.specs.Reading.{accepted, refused, reading}
 use Rattle.calculus.specs.Truth.{truth, Valid}
-use Rattle.calculus.specs.Standard.{standard, spelling, SameSets, AscendsByBytes}
+use Rattle.calculus.specs.Standard.{standard, spelling}
 use Rattle.calculus.specs.Reply.{Written, unwritten, fillOut, spell}
 use Rattle.calculus.proofs.Buffers.{sets-start, no-room, room}
 use Rattle.calculus.proofs.Standard.{standard-ascends, standard-sets, standard-truth, standard-valid, spelling-question, spelling-itself, spelling-alike, spelling-accepted}

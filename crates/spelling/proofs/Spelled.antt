@@ -1,7 +1,7 @@
 -- An accepted question, side by side: its places, its spelling, and the reply.
 -- Assumes nothing.
-use mathlib.Core.Path.{_≡_, refl, sym, ap, _∙_}
-use mathlib.Core.List.{List, [], _∷_, _++_}
+use mathlib.Core.Path.{_≡_, ap, _∙_}
+use mathlib.Core.List.{List, _∷_}
 use Prim.Native.Nat.{ℕ, _+_, _≤_}
 use native.Mathlib.Omega.{arith}
 use lib.ListN.{length, take, drop, length-append}
@@ -10,7 +10,7 @@ use Rattle.calculus.specs.declared.Side.{Side}
 use Rattle.calculus.specs.declared.Side.the-variants.{Left, Right}
 use Rattle.calculus.specs.Limits.{LIMITS, LONGEST, FORMULAS}
 use Rattle.calculus.specs.Syntax.{Formula, on-side}
-use Rattle.calculus.specs.Bytes.{SIDE, code, encodeAll, encodeSide, formulas, bytesAll, question, sideStart}
+use Rattle.calculus.specs.Bytes.{SIDE, code, encodeSide, formulas, bytesAll, question, sideStart}
 use Rattle.calculus.specs.Reading.{accepted, reading}
 use Rattle.calculus.specs.Standard.{arranged, spelling}
 use Rattle.calculus.proofs.Readings.{accepted-question, exactly-under}

@@ -7,8 +7,7 @@ use native.Mathlib.Nat.{add-zero}
 use native.Mathlib.Numerals.{add-one}
 use native.Mathlib.Omega.{arith}
 use lib.ListN.{length, take, drop, getD, set, length-append, length-drop, length-set, drop-of-length-le}
-use lib.Seq.{drop-cons, drop-length, getD-take, length-take-le, sets, length-sets}
-use Rattle.calculus.specs.Limits.{LONGEST, FORMULAS}
+use lib.Seq.{drop-cons, length-take-le, sets, length-sets}
 use Rattle.calculus.proofs.Buffers.{sets-append}
 use Rattle.spelling.specs.Places.{startIn, endIn, Inside, bytesAt, bytesIn, Listed}
 use Rattle.spelling.proofs.Order.{inside-at, cut}

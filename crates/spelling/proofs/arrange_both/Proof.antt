@@ -1,5 +1,5 @@
 -- `spelling::arrange_both` meets its contract. Assumes nothing.
-use mathlib.Core.Path.{_≡_, refl, sym, _∙_}
+use mathlib.Core.Path.{_≡_, refl}
 use Prim.Native.Nat.{_+_}
 use native.Mathlib.Omega.{arith}
 use Rattle.calculus.specs.declared.Side.the-variants.{Left, Right}

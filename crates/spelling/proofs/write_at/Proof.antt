@@ -1,7 +1,5 @@
 -- `spelling::write_at` meets its contract. Assumes nothing.
-use mathlib.Core.Path.{_≡_, refl, ap, _∙_}
-use Prim.Native.Nat.{_+_, _-_}
-use native.Mathlib.Omega.{arith}
+use Prim.Native.Nat.{_-_}
 use borrow.Author.Needs.{needs}
 use Rattle.spelling.proofs.write_at.Statement.{statement}
 use Rattle.spelling.proofs.write_at.Tie as tie

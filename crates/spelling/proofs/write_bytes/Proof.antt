@@ -1,7 +1,6 @@
 -- `spelling::write_bytes` meets its contract. The loop's invariant: what is stored with the bytes ahead is what is stored with all. The
 -- measure is the bytes left. Assumes nothing.
-use mathlib.Core.Path.{_≡_, refl}
-use Prim.Native.Nat.{_+_, _-_}
+use Prim.Native.Nat.{_-_}
 use native.Mathlib.Omega.{arith}
 use lib.ListN.{length}
 use Rattle.spelling.proofs.Writes.{Storing, storing-first, storing-next, storing-last}

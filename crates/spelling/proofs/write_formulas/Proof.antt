@@ -1,9 +1,7 @@
 -- `spelling::write_formulas` meets its contract. The loop's invariant: what is stored with the bytes at the places ahead is what is
 -- stored with all. The measure is the places left. Assumes nothing.
-use mathlib.Core.Path.{_≡_, refl}
-use Prim.Native.Nat.{_+_, _-_}
+use Prim.Native.Nat.{_-_}
 use native.Mathlib.Omega.{arith}
-use lib.ListN.{length, getD}
 use Rattle.spelling.proofs.Order.{inside-at}
 use Rattle.spelling.proofs.Writes.{Writing, writing-first, writing-room, writing-next, writing-last}
 use Rattle.spelling.proofs.write_formulas.Statement.{statement}
