@@ -4,9 +4,10 @@ use mathlib.Core.Path.{_≡_, refl, sym, ap, _∙_}
 use mathlib.Core.Bool.{Bool, true, false, _&&_, _||_, or-true, true≢false, false≢true}
 use mathlib.Core.Option.{some}
 use mathlib.Core.List.{List, [], _∷_, _++_, map}
-use Prim.Native.Nat.{ℕ, _+_}
+use Prim.Native.Nat.{ℕ, zero, suc, _+_, _<_}
 use native.Mathlib.Nat.{mul-add, mul-zero}
 use native.Mathlib.Omega.{arith}
+use lib.ListN.{length, getD}
 use Rattle.calculus.specs.Fold.{Monoid, fold, ANY, ALL, SUM, PRODUCT, Each, choose, find}
 
 module _ {A : Type 0} (M : Monoid A) where
@@ -90,6 +91,11 @@ each-append Q (x ∷ xs) ys h k = (h .0, each-append Q xs ys (h .1) k)
 pub each-and : {X : Type 0} (Q Q′ : X → Type 0) (xs : List X) → Each Q xs → Each Q′ xs → Each (λ x. Q x × Q′ x) xs
 each-and Q Q′ [] h k = tt
 each-and Q Q′ (x ∷ xs) h k = ((h .0, k .0), each-and Q Q′ xs (h .1) (k .1))
+
+pub each-at : {X : Type 0} (Q : X → Type 0) (xs : List X) (i : ℕ) (d : X) → Each Q xs → i < length xs → Q (getD xs i d)
+each-at Q [] i d h k = absurd (omega arith)
+each-at Q (x ∷ xs) zero d h k = h .0
+each-at Q (x ∷ xs) (suc i) d h k = each-at Q xs i d (h .1) (omega arith)
 
 pub any-false : {X : Type 0} (g : X → Bool) (Q : X → Type 0) → ((x : X) → Q x → g x ≡ false) → (xs : List X) → Each Q xs → fold ANY g xs ≡ false
 any-false g Q f [] h = refl

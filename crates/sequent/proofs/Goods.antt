@@ -18,6 +18,7 @@ use Rattle.calculus.specs.Bytes.{CONNECTIVE, code}
 use Rattle.calculus.specs.Table.{premise, premises, table}
 use Rattle.calculus.specs.Tree.{letters, twins, unlike, alike, state, missing, here, later, first}
 use Rattle.calculus.specs.Derivation.{Pairs}
+use Rattle.calculus.proofs.Folds.{each-at}
 use Rattle.calculus.proofs.Sequents.{Due, Smaller, smaller}
 use Rattle.calculus.proofs.Trees.{alike-only}
 use Rattle.sequent.specs.declared.Placing.{Placing}
@@ -32,7 +33,7 @@ use Rattle.sequent.specs.Rule.{ruleOf, partsOn, placed, premisesOf, side
 use Rattle.sequent.specs.View.{view, countOf, maskOf, slotOf, startOf, nameAt, named, sequentOf, bitOf, lettersOf, Good}
 use Rattle.sequent.specs.Passes.{Builds}
 use Rattle.sequent.specs.Compounds.{firstIn, Clear, Found, EqualAt, Paired, twinsOf, compoundOf, IsCompound, compoundAt, ruleFor, reductionAt, premisesAt, premiseBy, Reducible, Makes}
-use Rattle.sequent.proofs.Lists.{element, element-is, each-parts, each-premise, each-at, each-unmap, ones}
+use Rattle.sequent.proofs.Lists.{element, element-is, each-parts, each-premise, each-unmap, ones}
 use Rattle.sequent.proofs.Rows.{rows-of}
 use Rattle.sequent.proofs.Masks.{letterBit, state-fold, OR}
 use Rattle.sequent.proofs.Letters.{masked-premise}

@@ -66,11 +66,6 @@ each-parts Q t p f g h k = each-append Q (keep (eqb (p .f) (sideCode t)) f) (kee
     one true x h = (h, tt)
     one false x h = tt
 
-pub each-at : {X : Type 0} (Q : X → Type 0) (xs : List X) (i : ℕ) (d : X) → Each Q xs → i < length xs → Q (getD xs i d)
-each-at Q [] i d h k = absurd (omega arith)
-each-at Q (x ∷ xs) zero d h k = h .0
-each-at Q (x ∷ xs) (suc i) d h k = each-at Q xs i d (h .1) (omega arith)
-
 pub each-unmap : {X Y : Type 0} (f : X → Y) (Q : Y → Type 0) (xs : List X) → Each Q (map f xs) → Each (λ x. Q (f x)) xs
 each-unmap f Q [] h = tt
 each-unmap f Q (x ∷ xs) h = (h .0, each-unmap f Q xs (h .1))

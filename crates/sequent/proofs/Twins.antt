@@ -12,11 +12,11 @@ use Rattle.calculus.specs.declared.Side.{Side}
 use Rattle.calculus.specs.declared.Side.the-variants.{Left, Right}
 use Rattle.calculus.specs.Limits.{ROOM, LETTERS}
 use Rattle.calculus.specs.Syntax.{on-side}
+use Rattle.calculus.proofs.Folds.{each-at}
 use Rattle.sequent.specs.declared.Running.{Running}
 use Rattle.sequent.specs.declared.Pair.the-variants.{Both, Neither}
 use Rattle.sequent.specs.View.{view, countOf, slotOf, nameAt, Member, Covered}
 use Rattle.sequent.specs.Compounds.{Stands, EqualAt, Paired}
-use Rattle.sequent.proofs.Lists.{each-at}
 use Rattle.sequent.proofs.Sets.{meeting}
 
 module _ (s : Running) (items : List ℕ) (places : length items ≡ ROOM) (room : s .lefts + s .rights ≤ ROOM) where

@@ -9,8 +9,8 @@ use lib.ListN.{length, take, drop, getD, set, length-take, take-append-drop, dro
 use lib.Seq.{drop-cons, take-suc, append-snoc, set-at, take-set-lt, getD-take, length-take-le, take-take, slice-empty, slice-cons}
 use borrow.Author.Tests.{lt-ltb, le-ltb}
 use Rattle.calculus.specs.declared.Comparison.the-variants.{Less, Equal, Greater}
-use Rattle.calculus.specs.Fold.{Each}
 use Rattle.calculus.specs.Standard.{compareByte, firstly, compare, insert}
+use Rattle.calculus.proofs.Folds.{each-at}
 use Rattle.spelling.specs.declared.Spot.the-variants.{Before}
 use Rattle.spelling.specs.Places.{Inside, bytesAt, putAt, Listed}
 
@@ -46,18 +46,12 @@ module _ (x y : List ℕ) (i : ℕ) where
 
 -- ---- the places of q in the first n items
 
-pub each-take : {X : Type 0} (Q : X → Type 0) (l : List X) (n i : ℕ) (d : X) → n ≤ length l → Each Q (take n l) → i < n → Q (getD l i d)
-each-take Q l zero i d k h j = absurd (omega arith)
-each-take Q [] (suc n) i d k h j = absurd (omega arith)
-each-take Q (x ∷ l) (suc n) zero d k h j = h .0
-each-take Q (x ∷ l) (suc n) (suc i) d k h j = each-take Q l n i d (omega arith) (h .1) (omega arith)
-
 module _ (q items : List ℕ) (n : ℕ) (list : Listed q items n) where
   fits : n ≤ length items
   fits = omega (arith, list .few, list .size)
 
   pub inside-at : (i : ℕ) → i < n → Inside q (getD items i 0)
-  inside-at i h = each-take (Inside q) items n i 0 fits (list .inside) h
+  inside-at i h = rw (getD-take n items i 0 h) at (each-at (Inside q) (take n items) i 0 (list .inside) (rw (length-take-le n items fits) h))
 
   -- item i, cut from those behind it and added to those before it
   pub cut : (i : ℕ) → i < n → drop i (take n items) ≡ getD items i 0 ∷ drop (i + 1) (take n items)
