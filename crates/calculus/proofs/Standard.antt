@@ -8,6 +8,7 @@ use mathlib.Core.List.{List, [], _∷_, _++_, map}
 use Prim.Native.Nat.{ℕ, _+_, _≤_, _<_}
 use native.Mathlib.Decide.{decLt}
 use native.Mathlib.Omega.{arith}
+use lib.Dec.{ltb}
 use lib.ListN.{length, length-append}
 use borrow.Author.Tests.{lt-ltb, le-ltb}
 use Rattle.calculus.specs.declared.Side.{Side}
@@ -15,13 +16,14 @@ use Rattle.calculus.specs.declared.Side.the-variants.{Left, Right}
 use Rattle.calculus.specs.declared.Comparison.{Comparison}
 use Rattle.calculus.specs.declared.Comparison.the-variants.{Less, Equal, Greater}
 use Rattle.calculus.specs.Fold.{fold, ANY, SUM, Each}
-use Rattle.calculus.specs.Limits.{Limits, LETTERS}
+use Rattle.calculus.specs.Limits.{Limits, VARIED}
 use Rattle.calculus.specs.Syntax.{Formula, Sequent, on-side, connectives}
 use Rattle.calculus.specs.Bytes.{encode, encodeAll, encodeSide, encodeSequent, same, bytes, bytesAll, question, LetteredUnder, WithinUnder}
 use Rattle.calculus.specs.Reading.{accepted, readingUnder}
 use Rattle.calculus.specs.Truth.{says, truth, Valid}
-use Rattle.calculus.specs.States.{occurs, occursIn, from, filter, lettersUnder, lettersIn, statesOver, refutingOver, refuting}
+use Rattle.calculus.specs.States.{occurs, occursIn, from, filter, lettersUnder, statesOver, refutingOver}
 use Rattle.calculus.specs.Standard.{compareByte, firstly, compare, place, insert, arranged, standard, spelling, stands, SameSets, AscendsByBytes}
+use Rattle.calculus.specs.Reply.{fillOut, listOut, listUnder}
 use Rattle.calculus.proofs.Folds.{or-elim, not-so, each}
 use Rattle.calculus.proofs.Spelling.{same-eq, same-self, encode-injective, question-encode}
 use Rattle.calculus.proofs.Readings.{question-under, exactly-under}
@@ -269,16 +271,16 @@ standard-truth S σ = rw (any-arranged (says σ Left) (S .on-left), any-arranged
 pub standard-valid : (S : Sequent) → Valid (standard S) ↔ Valid S
 standard-valid S = (λ h σ. sym (standard-truth S σ) ∙ h σ, λ h σ. standard-truth S σ ∙ h σ)
 
--- so the refuting states stay, over the same letters
+-- so do the letters, and the refuting states over them
 standard-occurs : (S : Sequent) (k : ℕ) → occursIn k (standard S) ≡ occursIn k S
 standard-occurs S k = rw (any-arranged (occurs k) (S .on-left), any-arranged (occurs k) (S .on-right))
 
-pub standard-refuting : (S : Sequent) → refuting (standard S) ≡ refuting S
+pub standard-letters : (S : Sequent) (n : ℕ) → lettersUnder n (standard S) ≡ lettersUnder n S
 unfolding lettersUnder
-standard-refuting S =
-    let ks : lettersIn (standard S) ≡ lettersIn S = ap (λ (t : ℕ → Bool). filter t (from 0 LETTERS)) (fun-ext (λ k. standard-occurs S k)) in
-    ap (λ (t : ℕ → Bool). filter t (statesOver (lettersIn (standard S)))) (fun-ext (λ σ. ap not (standard-truth S σ)))
-    ∙ ap (λ (l : List ℕ). refutingOver l S) ks
+standard-letters S n = ap (λ (t : ℕ → Bool). filter t (from 0 n)) (fun-ext (λ k. standard-occurs S k))
+
+pub standard-refuting : (S : Sequent) (ks : List ℕ) → refutingOver ks (standard S) ≡ refutingOver ks S
+standard-refuting S ks = ap (λ (t : ℕ → Bool). filter t (statesOver ks)) (fun-ext (λ σ. ap not (standard-truth S σ)))
 
 -- ---- the spelling
 
@@ -349,3 +351,14 @@ module _ (L : Limits) where
       let n : length (spelling (question q)) ≤ length q = omega (arith, spelling-shorter (question q), ap length (r .1)) in
       let m = exactly-under L q .0 e .0 in
       (exactly-under L (spelling (question q)) .1 (omega (arith, n, m), (standard (question q), standard-within (question q) (r .0), refl)), n)
+
+  -- "every studio state that breaks a rule": the list of a spelling is the question's
+  pub spelling-lists : (q : List ℕ) → readingUnder L q ≡ accepted → (old : List ℕ) → listUnder L (spelling (question q)) old ≡ listUnder L q old
+  spelling-lists q e old =
+      let S = question q in
+      let k = standard-letters S (L .letters) in
+      rw (spelling-accepted q e .0, e, spelling-question S, k) (go (ltb VARIED (length (lettersUnder (L .letters) S))))
+    where
+      go : (b : Bool) → listOut b (lettersUnder (L .letters) (question q)) (standard (question q)) old ≡ listOut b (lettersUnder (L .letters) (question q)) (question q) old
+      go true = refl
+      go false = ap (λ (σs : List ℕ). fillOut σs [] old) (standard-refuting (question q) (lettersUnder (L .letters) (question q)))
