@@ -305,10 +305,10 @@ pub fn skip(q: &[u8], at: usize, n: usize) -> usize
 {
     let mut w = Walk { at: at, due: n };
     while 0 < w.due {
-        let l = to_letter(q, w);
+        let letter = to_letter(q, w);
         w = Walk {
-            at: l.at + 2,
-            due: l.due - 1,
+            at: letter.at + 2,
+            due: letter.due - 1,
         };
     }
     w.at

@@ -86,9 +86,9 @@ pub enum Spot {
 fn spot_of(q: &[u8], items: &[u16; ALL_FORMULAS], n: usize, p: u16) -> Spot
     requires { ⌜ Listed (now q) (now items) n × Inside (now q) p ⌝ }
     ensures { λ r. ⌜
-        Upto n r
-        × (putAt r p (take n (now (items .entry)))
-        ≡ insert (bytesAt (now (q .entry))) p (take n (now (items .entry)))) ⌝ }
+        (putAt r p (take n (now (items .entry)))
+        ≡ insert (bytesAt (now (q .entry))) p (take n (now (items .entry))))
+        × Upto n r ⌝ }
 {
     let mut i = 0;
     while i < n {

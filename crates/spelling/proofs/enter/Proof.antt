@@ -14,8 +14,8 @@ enter-spec =
     (λ c. search needs)
     (λ c κs.
     let s = c .before .before .before .before .before .before .before in
-    (rw (c .before .before .spot .given .1) at (c .before .before .before .before .spot-of .ensures .0), s .pre .1, s .pre .0 .size))
+    (rw (c .before .before .spot .given .1) at (c .before .before .before .before .spot-of .ensures .1), s .pre .1, s .pre .0 .size))
     (λ c. search needs)
-    (λ c. (omega arith, c .before .before .before .before .before .pre .0 .size, rw (c .enum-told .given .1) at (c .before .before .spot-of .ensures .1)))
+    (λ c. (omega arith, c .before .before .before .before .before .pre .0 .size, rw (c .enum-told .given .1) at (c .before .before .spot-of .ensures .0)))
     (λ c.
-    (omega arith, c .put .ensures .0, c .put .ensures .1 ∙ rw (c .before .before .before .spot .given .1) at (c .before .before .before .before .before .spot-of .ensures .1))))
+    (omega arith, c .put .ensures .0, c .put .ensures .1 ∙ rw (c .before .before .before .spot .given .1) at (c .before .before .before .before .before .spot-of .ensures .0))))

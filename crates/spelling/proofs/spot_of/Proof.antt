@@ -33,12 +33,12 @@ spot-of-spec =
     (λ c.
     let s = c .before .before .before .before .before .before .before in
     let l = c .before .before .before .before .before .loop in
-    (l .inv .0, before-it (s .args .q .now) (s .args .items .now) (s .args .n) (s .pre .0) (s .args .p) (l .i) (l .inv .1) (omega arith) (sym (c .before .before .compare-at .ensures) ∙ c .enum-told .given .1)))
+    (before-it (s .args .q .now) (s .args .items .now) (s .args .n) (s .pre .0) (s .args .p) (l .i) (l .inv .1) (omega arith) (sym (c .before .before .compare-at .ensures) ∙ c .enum-told .given .1), l .inv .0))
     (λ c. search needs)
     (λ c.
     let s = c .before .before .before .before .before .before .before in
     let l = c .before .before .before .before .before .loop in
-    (tt, there-it (s .args .q .now) (s .args .items .now) (s .args .n) (s .pre .0) (s .args .p) (l .i) (l .inv .1) (omega arith) (sym (c .before .before .compare-at .ensures) ∙ c .enum-told2 .given .1)))
+    (there-it (s .args .q .now) (s .args .items .now) (s .args .n) (s .pre .0) (s .args .p) (l .i) (l .inv .1) (omega arith) (sym (c .before .before .compare-at .ensures) ∙ c .enum-told2 .given .1), tt))
     (λ c. search needs)
     (λ c. search needs)
     (λ c. search needs)
@@ -49,4 +49,4 @@ spot-of-spec =
     (λ c.
     let s = c .before .before .before in
     let l = c .before .loop in
-    (omega arith, behind-all (s .args .q .now) (s .args .items .now) (s .args .n) (s .pre .0) (s .args .p) (l .i) (l .inv .1) (omega arith))))
+    (behind-all (s .args .q .now) (s .args .items .now) (s .args .n) (s .pre .0) (s .args .p) (l .i) (l .inv .1) (omega arith), omega arith)))
