@@ -19,7 +19,7 @@ use Rattle.calculus.specs.Bytes.{bytes, side_start, WithinUnder}
 use Rattle.calculus.specs.Truth.{bit, value, says, truth, Valid}
 use Rattle.calculus.specs.Tree.{among, tree, verdict}
 use Rattle.calculus.specs.States.{occurs, letters_under}
-use Rattle.calculus.specs.Clauses.{Clause, both, clause_of, several, Single, Profile, outside, clauses, prepend, admit, profile_from, profile_by, profile, met, rest, Rest, fails, Decision, theorem, refuted, judge, decided, is_theorem, Below, Correct, Agrees}
+use Rattle.calculus.specs.Clauses.{Clause, both, clause_of, several, Single, Profile, outside, clauses, prepend, admit, profile_from, profile_by, profile, met, rest, fails, Decision, theorem, refuted, judge, decided, is_theorem, Below, Correct, Agrees}
 use Rattle.calculus.proofs.Folds.{fold_append, or_elim, or_left, or_right, each_and, each_false}
 use Rattle.calculus.proofs.Bounds.{theorem_true, tree_fine}
 use Rattle.calculus.proofs.Budgets.{verdict_end}

@@ -19,7 +19,7 @@ use Rattle.calculus.specs.Syntax.{Compound, Sequent, over, size, c}
 use Rattle.calculus.specs.Limits.{ROOM}
 use Rattle.calculus.specs.Truth.{truth, Valid}
 use Rattle.calculus.specs.Table.{premises}
-use Rattle.calculus.specs.Tree.{letters, common, Twins, unlike, alike, twins, Way, paired, either, closing, closing_by_letter, First, missing, here, first, Step, closed, opened, full, reduced, tests, step_by, Event, Tree, follow, chain, grow, tree_by, tree, is_reduce, is_close, reductions, closings}
+use Rattle.calculus.specs.Tree.{letters, common, Twins, unlike, alike, twins, Way, paired, closing, closing_by_letter, First, missing, here, first, Step, closed, opened, full, reduced, tests, step_by, Event, Tree, follow, chain, grow, tree_by, tree, is_reduce, is_close, reductions, closings}
 use Rattle.calculus.specs.Width.{W}
 use Rattle.calculus.specs.Derivation.{written_all}
 use Rattle.calculus.proofs.Folds.{fold_append, each}

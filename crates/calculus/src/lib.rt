@@ -1,8 +1,10 @@
 // The types that the code and the definitions share, and a byte as a count or a place.
+#![tactic(auto)]
+
 ghost use Rattle.std.specs.Prelude.{◌≡◌};
 ghost use Rattle.calculus.specs.Syntax.{other};
 
-#[derive(Drop)]
+#[derive(Clone, Copy)]
 pub enum Side {
     Left,
     Right,
@@ -20,7 +22,7 @@ impl Side {
 }
 
 // What the reader of a question still expects.
-#[derive(Drop)]
+#[derive(Clone, Copy)]
 pub enum Expected {
     // The command of a side.
     Head(Side),
@@ -34,7 +36,7 @@ pub enum Expected {
 }
 
 // How a run ends. A refuted question comes with its state.
-#[derive(Drop)]
+#[derive(Clone, Copy)]
 pub enum Kind {
     Theorem,
     Refuted(u64),
@@ -44,7 +46,7 @@ pub enum Kind {
 
 // What a run under a budget comes to: its kind, the reductions left, the sequents closed, and how many of these by equal
 // formulas.
-#[derive(Drop)]
+#[derive(Clone, Copy)]
 pub struct Outcome {
     pub kind: Kind,
     pub unspent: u64,
@@ -53,7 +55,7 @@ pub struct Outcome {
 }
 
 // A verdict carries its kind, and beside it the two counts.
-#[derive(Drop)]
+#[derive(Clone, Copy)]
 pub struct Verdict {
     pub kind: Kind,
     pub reductions: u64,
@@ -61,14 +63,14 @@ pub struct Verdict {
 }
 
 // A part of a question's bytes.
-#[derive(Drop)]
+#[derive(Clone, Copy)]
 pub struct Part {
     pub start: usize,
     pub count: usize,
 }
 
 // How the bytes of one formula stand to those of another.
-#[derive(Drop)]
+#[derive(Clone, Copy)]
 pub enum Comparison {
     Less,
     Equal,

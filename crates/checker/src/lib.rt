@@ -1,4 +1,6 @@
 // Checking a derivation of a question.
+#![tactic(auto)]
+
 ghost use Rattle.std.specs.Prelude.{◌≡◌, ◌↔◌, ◌&&◌, List, [], ◌∷◌, ℕ, ◌+◌, ◌≤◌, length, get_or};
 ghost use Rattle.std.proofs.Math.Option.{some};
 ghost use Rattle.std.proofs.Math.ListN.{get_elem?};
@@ -19,7 +21,7 @@ use question::{LETTERS, Reading, Refusal};
 use sequent::{Placing, Reduction, Running};
 
 // What is wrong with a derivation, and the place of the command, or of the first byte left over.
-#[derive(Drop)]
+#[derive(Clone, Copy)]
 pub enum Fault {
     CutShort(usize),
     UnknownCommand(usize),
@@ -62,7 +64,7 @@ impl Fault {
     }
 }
 
-#[derive(Drop)]
+#[derive(Clone, Copy)]
 pub enum Checking {
     Refused(Refusal),
     Faulty(Fault),
@@ -70,7 +72,7 @@ pub enum Checking {
 }
 
 // A command: close by a letter or by equal formulas, or reduce a connective, given by its own command, on a side.
-#[derive(Drop)]
+#[derive(Clone, Copy)]
 enum Order {
     Close,
     Pair,
@@ -80,7 +82,7 @@ enum Order {
 
 // What a command says of the sequent that waits: at fault, closed by a command of two bytes, closed by one of three, or a
 // reduction to make.
-#[derive(Drop)]
+#[derive(Clone, Copy)]
 enum Move {
     Stop(Fault),
     Closed,
@@ -89,14 +91,14 @@ enum Move {
 }
 
 // Where the derivation of a sequent ends, or its first fault.
-#[derive(Drop)]
+#[derive(Clone, Copy)]
 enum Walked {
     To(usize),
     Stopped(Fault),
 }
 
 // The same of premises, and the stores made for them.
-#[derive(Drop)]
+#[derive(Clone, Copy)]
 struct Tally {
     walked: Walked,
     stores: usize,

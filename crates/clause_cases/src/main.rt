@@ -1,5 +1,7 @@
 // The questions of the clause profile worked out by hand (`rulings` of calculus), eight clauses in a chain from the last
 // and from the first, numbers 13 to 15 in their order, and refused questions.
+#![tactic(auto)]
+
 ghost use Rattle.std.specs.Prelude.{◌≤◌, length};
 
 use clauses::Answer;

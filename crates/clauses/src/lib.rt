@@ -1,5 +1,7 @@
 // The house rules as clauses: a question whose right side is empty and whose left formulas are clauses with at most one
 // letter without NOT is decided by unit clauses alone. A set of letters is a mask, letter k as bit k.
+#![tactic(auto)]
+
 ghost use Rattle.std.specs.Prelude.{◌≡◌, List, [], ◌∷◌, ◌≤◌, length, take, drop, get_or};
 ghost use Rattle.calculus.specs.Fold.{fold, ANY, Each};
 ghost use Rattle.calculus.specs.Limits.{FORMULAS};
@@ -19,7 +21,7 @@ use question::{ALL_FORMULAS, Reading, Refusal};
 
 // What a walk has gathered: the letters under NOT, those without, how many of these it met, the position, and the
 // formulas that are due there, all joined by OR.
-#[derive(Drop)]
+#[derive(Clone, Copy)]
 pub struct Gathered {
     pub negative: u64,
     pub positive: u64,
@@ -29,7 +31,7 @@ pub struct Gathered {
 }
 
 // The walk goes on, or has met what no clause has.
-#[derive(Drop)]
+#[derive(Clone, Copy)]
 pub enum Step {
     Next(Gathered),
     Other,
@@ -125,7 +127,7 @@ impl Gathered {
 }
 
 // A clause: its letters under NOT, its letter without NOT, if any, and the position behind it.
-#[derive(Drop)]
+#[derive(Clone, Copy)]
 pub struct Masks {
     pub negative: u64,
     pub positive: u64,
@@ -133,7 +135,7 @@ pub struct Masks {
 }
 
 // A clause with at most one letter without NOT, one with more, or no clause.
-#[derive(Drop)]
+#[derive(Clone, Copy)]
 pub enum Form {
     Single(Masks),
     Many,
@@ -201,7 +203,7 @@ fn round(
 }
 
 // The state in which the rounds end, and how many of them lit a letter.
-#[derive(Drop)]
+#[derive(Clone, Copy)]
 pub struct Settled {
     pub state: u64,
     pub rounds: usize,
@@ -264,7 +266,7 @@ fn some_false(
 }
 
 // What the call answers: a refusal with its place, or the rounds that lit a letter, with the state of a refuted question.
-#[derive(Drop)]
+#[derive(Clone, Copy)]
 pub enum Answer {
     Refused(Refusal),
     RightFormula(usize),

@@ -1,5 +1,7 @@
 // The derivations of document 01's cases 2, 4, 5, 7 and 11, other orders, and the smallest examples of its numbers 9 to 11 and
 // 20 to 26. Number 8 has none: no premise of an accepted question holds more than 80 formulas.
+#![tactic(auto)]
+
 ghost use Rattle.std.specs.Prelude.{◌≤◌, length};
 
 use calculus::{Kind, Verdict};

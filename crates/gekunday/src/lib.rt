@@ -1,4 +1,6 @@
 // The library's calls, for Rattle and for C.
+#![tactic(auto)]
+
 ghost use Rattle.std.specs.Prelude.{◌≡◌, ◌↔◌, [], ◌∷◌, ℕ, take};
 ghost use Rattle.calculus.specs.Bytes.{question};
 ghost use Rattle.calculus.specs.Reading.{accepted, reading};
@@ -118,7 +120,7 @@ const NOT_CLAUSE: u32 = 14;
 const MANY_POSITIVE: u32 = 15;
 
 // A number and the words beside it.
-#[derive(Drop)]
+#[derive(Clone, Copy)]
 struct Words {
     number: u32,
     first: u64,
@@ -273,7 +275,7 @@ fn clauses_words(a: clauses::Answer) -> Words
 }
 
 // A verdict's number and words.
-#[derive(Drop)]
+#[derive(Clone, Copy)]
 struct Decided {
     number: u32,
     refuted: u64,

@@ -1,5 +1,7 @@
 // The names of a question's formulas and their nodes, in one walk, and the running sequent that it starts from. Equal
 // formulas have one name.
+#![tactic(auto)]
+
 ghost use Rattle.std.specs.Prelude.{◌≡◌, List, [], ◌∷◌, ◌++◌, ℕ, ◌+◌, ◌≤◌, ◌<◌, length, take, get_or};
 ghost use Rattle.calculus.specs.Limits.{LETTERS, CONNECTIVES, ROOM};
 ghost use Rattle.calculus.specs.Syntax.{Formula, on_side};
@@ -16,7 +18,7 @@ use question::LETTERS;
 use sequent::Running;
 
 // A formula's name, the position behind it and the number of the next node.
-#[derive(Drop)]
+#[derive(Clone, Copy)]
 pub struct Named {
     pub name: u8,
     pub end: usize,
@@ -25,7 +27,7 @@ pub struct Named {
 
 // The places filled so far, the letters and the compounds of the side that is being filled, the position behind its formulas so
 // far and the number of the next node.
-#[derive(Drop)]
+#[derive(Clone, Copy)]
 pub struct Loaded {
     pub places: usize,
     pub mask: u64,

@@ -1,4 +1,6 @@
 // Text in a buffer: words, numbers in decimal, bytes in hexadecimal; and lines of it on standard output.
+#![tactic(auto)]
+
 ghost use Rattle.std.specs.Prelude.{◌≡◌, [], ◌∷◌, ◌++◌, ◌+◌, ◌*◌, ◌≤◌, ◌<◌, length};
 ghost use Rattle.io.specs.Digits.{hex_digit_ascii};
 ghost use Rattle.question.specs.Answers.{number_of, place_of};

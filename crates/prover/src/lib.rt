@@ -1,4 +1,6 @@
 // The inner step on a running sequent, the run made from it, and the call that decides.
+#![tactic(auto)]
+
 ghost use Rattle.std.specs.Prelude.{◌≡◌, ◌%◌, ◌≤◌, length};
 ghost use Rattle.std.proofs.Math.Option.{none};
 ghost use Rattle.calculus.specs.Limits;
@@ -21,7 +23,7 @@ use question::{Reading, Refusal};
 use sequent::{Pair, Place, Placing, ROOM, Reduction, Running};
 
 // What is due at a sequent, with the reductions left.
-#[derive(Drop)]
+#[derive(Clone, Copy)]
 pub enum Finding {
     // A letter stands on both sides: the lowest.
     Closed(u32),
@@ -36,7 +38,7 @@ pub enum Finding {
 }
 
 // What a reduction comes to, and the stores made for its premises.
-#[derive(Drop)]
+#[derive(Clone, Copy)]
 pub struct Reduced {
     pub kind: Kind,
     pub unspent: u64,
@@ -288,7 +290,7 @@ pub fn verdict_of(q: &[u8], budget: u64) -> Verdict
     report(o, budget)
 }
 
-#[derive(Drop)]
+#[derive(Clone, Copy)]
 pub enum Decision {
     Refused(Refusal),
     Decided(Verdict),

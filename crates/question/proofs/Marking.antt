@@ -3,8 +3,9 @@
 use mathlib.Core.Path.{◌≡◌, refl, sym, ap, ◌∙◌}
 use mathlib.Core.Bool.{Bool, true, ◌||◌, or_assoc, or_comm, or-false}
 use mathlib.Core.List.{List}
-use Prim.Native.Nat.{ℕ, ◌+◌, ◌-◌, ◌≤◌, ◌<◌}
+use Prim.Native.Nat.{ℕ, ◌+◌, ◌-◌, ◌^◌, ◌≤◌, ◌<◌}
 use native.Mathlib.Omega.{arith}
+use lib.Bits.{bit_or, or_comm as bit-or_comm}
 use lib.Dec.{eqb}
 use lib.ListN.{length, take, drop, get_or}
 use borrow.Author.Tests.{eq-eqb}
@@ -17,9 +18,13 @@ use Rattle.calculus.specs.Tree.{light}
 use Rattle.calculus.specs.States.{occurs}
 use Rattle.calculus.proofs.Folds.{or_left, or_right}
 use Rattle.calculus.proofs.Letters.{occurs_all}
-use Rattle.calculus.proofs.Trees.{bit_light}
+use Rattle.calculus.proofs.Trees.{bit_light, light_or}
 use Rattle.question.specs.Positions.{Reached, Marks}
 use Rattle.question.proofs.Walks.{Passed, passed_letter}
+
+-- one letter more
+pub bit_marked : (set k m : ℕ) → bit m (bit_or set (2 ^ k)) ≡ (bit m set || eqb m k)
+bit_marked set k m = ap (bit m) (bit-or_comm set (2 ^ k) ∙ light_or k set) ∙ bit_light m k set ∙ or_comm (eqb m k) (bit m set)
 
 -- what the formulas ahead add to the set so far is what all add to the set at first
 pub record Marking (q : List ℕ) (all : List Formula) (first set i d : ℕ) : Type 0 where

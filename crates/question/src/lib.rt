@@ -1,10 +1,13 @@
 // Reading a question, and handing out its formulas.
-ghost use Rattle.std.specs.Prelude.{◌≡◌, ℕ, ◌+◌, ◌-◌, ◌^◌, ◌≤◌, ◌<◌, List, false, length, take, drop, get_or};
+#![tactic(auto)]
+
+ghost use Rattle.std.specs.Prelude.{◌≡◌, ℕ, ◌+◌, ◌-◌, ◌^◌, ◌≤◌, ◌<◌, List, false, ◌||◌, eqb, length, take, drop, get_or};
 ghost use Rattle.calculus.specs.Fold.{Each};
 ghost use Rattle.calculus.specs.Limits.{LONGEST, FORMULAS, LETTERS};
 ghost use Rattle.calculus.specs.Syntax.{on_side};
 ghost use Rattle.calculus.specs.Bytes.{SIDE, LETTER, code, formulas, bytes_all, question, side_start, Lettered};
 ghost use Rattle.calculus.specs.Reading.{accepted, reading};
+ghost use Rattle.calculus.specs.Truth.{bit};
 ghost use Rattle.calculus.specs.Tree.{light};
 ghost use Rattle.calculus.specs.Reply.{formula_part, formula_bytes};
 ghost use Rattle.question.specs.Answers.{number_of, place_of, reading_of};
@@ -29,7 +32,7 @@ pub const ALL_LETTERS: usize = LETTERS as usize;
 pub const MOST_CONNECTIVES: u8 = 48;
 
 // Why a question is refused, and the place.
-#[derive(Drop)]
+#[derive(Clone, Copy)]
 pub enum Refusal {
     TooLong,
     Cut(usize),
@@ -72,7 +75,7 @@ impl Refusal {
     }
 }
 
-#[derive(Drop)]
+#[derive(Clone, Copy)]
 pub enum Reading {
     Accepted,
     Refused(Refusal),
@@ -80,7 +83,7 @@ pub enum Reading {
 
 // Where the reader is: the connectives so far, the place of the next byte, the formulas due there, and the sides whose
 // command is to come.
-#[derive(Drop)]
+#[derive(Clone, Copy)]
 pub struct Cursor {
     pub connectives: u8,
     pub at: usize,
@@ -88,7 +91,7 @@ pub struct Cursor {
     pub sides: u8,
 }
 
-#[derive(Drop)]
+#[derive(Clone, Copy)]
 pub enum Step {
     Next(Cursor),
     Stop(Refusal),
@@ -264,7 +267,7 @@ pub fn read(q: &[u8]) -> Reading
 }
 
 // A walk over commands: the position of the next, and the formulas due from there on.
-#[derive(Drop)]
+#[derive(Clone, Copy)]
 pub struct Walk {
     pub at: usize,
     pub due: usize,
@@ -319,7 +322,8 @@ pub fn end_of(q: &[u8], at: usize) -> usize
 // A set of letters, letter k as bit k, with one more.
 pub fn marked(set: u64, k: u8) -> u64
     requires { k < LETTERS }
-    ensures { result ≡ light k set }
+    ensures lit { result ≡ light k set }
+    ensures bits { (m : ℕ) → bit m result ≡ (bit m set || eqb m k) }
 {
     set | 1 << k
 }

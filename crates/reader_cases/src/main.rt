@@ -1,4 +1,6 @@
 // Document 01's case 12, the smallest examples of its numbers 1 to 7, and the formulas of case 4's question.
+#![tactic(auto)]
+
 ghost use Rattle.std.specs.Prelude.{◌≤◌, length};
 
 use calculus::Side;

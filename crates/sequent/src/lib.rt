@@ -1,4 +1,6 @@
 // The running sequent: the names of its formulas, the table of reductions, and premises made in one pass.
+#![tactic(auto)]
+
 ghost use Rattle.std.specs.Prelude.{◌≡◌, ◌++◌, ◌+◌, ◌-◌, ◌%◌, ◌≤◌, ◌<◌, length};
 ghost use Rattle.std.proofs.Math.Seq.{slice};
 ghost use Rattle.calculus.specs.Limits.{ROOM, LETTERS};
@@ -18,7 +20,7 @@ use question::LETTERS;
 // How many formulas stand on each side, the letters of each side, a bit each, and a set that holds the compounds of each side: it
 // only grows, so it holds reduced ones too. The names of the formulas, the left side's and then the right side's, are lent beside
 // it: a letter is named by itself, a compound by its node, above the letters, and equal formulas have one name.
-#[derive(Drop)]
+#[derive(Clone, Copy)]
 pub struct Running {
     pub lefts: usize,
     pub rights: usize,
@@ -29,13 +31,13 @@ pub struct Running {
 }
 
 // Where the two parts of a formula go in a premise: 0 nowhere, 1 left, 2 right.
-#[derive(Drop)]
+#[derive(Clone, Copy)]
 pub struct Placing {
     pub f: u8,
     pub g: u8,
 }
 
-#[derive(Drop)]
+#[derive(Clone, Copy)]
 pub struct Rule {
     pub premises: u8,
     pub first: Placing,
@@ -43,7 +45,7 @@ pub struct Rule {
 }
 
 // The compound at a place of a side, by its node.
-#[derive(Drop)]
+#[derive(Clone, Copy)]
 pub struct Reduction {
     pub side: Side,
     pub at: usize,
@@ -51,21 +53,21 @@ pub struct Reduction {
 }
 
 // A side and a place of it.
-#[derive(Drop)]
+#[derive(Clone, Copy)]
 pub enum Place {
     At(Side, usize),
     Nowhere,
 }
 
 // A left place and a right place.
-#[derive(Drop)]
+#[derive(Clone, Copy)]
 pub enum Pair {
     Both(usize, usize),
     Neither,
 }
 
 // A premise in the making: the next place of the old list, the next place of the new one, and the stores so far.
-#[derive(Drop)]
+#[derive(Clone, Copy)]
 pub struct Pass {
     pub from: usize,
     pub to: usize,
@@ -73,7 +75,7 @@ pub struct Pass {
 }
 
 // A premise and the stores made for it.
-#[derive(Drop)]
+#[derive(Clone, Copy)]
 pub struct Built {
     pub running: Running,
     pub stores: usize,

@@ -1,5 +1,7 @@
 // One spelling for the same question: each side's formulas ascending by their bytes, equal ones once. The places of the
 // formulas are sorted; the bytes stay where they are until the spelling is written.
+#![tactic(auto)]
+
 ghost use Rattle.std.specs.Prelude.{◌≡◌, List, ◌∷◌, ℕ, ◌+◌, ◌≤◌, ◌<◌, length, take, drop};
 ghost use Rattle.std.proofs.lemmas.List.Edits.{sets};
 ghost use Rattle.calculus.specs.Limits.{LONGEST, FORMULAS};
@@ -70,7 +72,7 @@ fn compare_at(q: &[u8], a: u16, b: u16) -> Comparison
 
 // Where a place belongs among places that ascend: before the first whose bytes are greater, or nowhere, since equal bytes
 // are there.
-#[derive(Drop)]
+#[derive(Clone, Copy)]
 pub enum Spot {
     Before(usize),
     There,
@@ -147,7 +149,7 @@ fn bytes_in(items: &[u16; ALL_FORMULAS], n: usize) -> usize
 }
 
 // How many places there are, the bytes that stand there, and the position behind the formulas that were read.
-#[derive(Drop)]
+#[derive(Clone, Copy)]
 pub struct Arranged {
     pub n: usize,
     pub bytes: usize,
@@ -249,7 +251,7 @@ fn write_side(
 }
 
 // How many places each side has, and the bytes of the spelling.
-#[derive(Drop)]
+#[derive(Clone, Copy)]
 pub struct Sizes {
     pub lefts: usize,
     pub rights: usize,
@@ -302,7 +304,7 @@ fn write_both(
 }
 
 // What the call answers: a refusal, or how many bytes the spelling has.
-#[derive(Drop)]
+#[derive(Clone, Copy)]
 pub enum Spelling {
     Refused(Refusal),
     NoSpace(usize),

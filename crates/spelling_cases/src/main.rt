@@ -1,5 +1,7 @@
 // The standard spellings worked out by hand (`spellings` of calculus), sides of 16, buffers around the length, refused
 // questions, and the spelling of a spelling. A buffer holds 99 where nothing is written.
+#![tactic(auto)]
+
 ghost use Rattle.std.specs.Prelude.{◌≤◌, length};
 
 use spelling::Spelling;

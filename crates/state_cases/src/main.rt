@@ -1,5 +1,7 @@
 // The refuting states of document 01's cases 1 to 3, 6, 8 and 9, the smallest examples of numbers 11 and 12, letters that are
 // not next to each other, and letters 32 and 63.
+#![tactic(auto)]
+
 ghost use Rattle.std.specs.Prelude.{◌≤◌, length};
 
 use states::Listing;

@@ -1,4 +1,6 @@
 // The width of a question.
+#![tactic(auto)]
+
 ghost use Rattle.std.specs.Prelude.{◌≡◌, ℕ, ◌+◌, ◌*◌, ◌≤◌, ◌<◌, length, take, drop, get_or};
 ghost use Rattle.calculus.specs.Limits.{CONNECTIVES};
 ghost use Rattle.calculus.specs.Syntax.{Binary, two, on_side, connectives};
@@ -13,7 +15,7 @@ use calculus::Side;
 use question::{Reading, Refusal};
 
 // A formula's pair of widths, on the left and on the right.
-#[derive(Drop)]
+#[derive(Clone, Copy)]
 pub struct Pair {
     pub left: u64,
     pub right: u64,
@@ -32,7 +34,7 @@ impl Pair {
 }
 
 // A formula's pair of widths, with its connectives and the position behind it.
-#[derive(Drop)]
+#[derive(Clone, Copy)]
 pub struct Walk {
     pub pair: Pair,
     pub connectives: u64,
@@ -110,7 +112,7 @@ pub fn part_widths(q: &[u8], b: u8, at: usize) -> Walk
 }
 
 // The product of the widths of formulas, each on a side, with their connectives and the position behind them.
-#[derive(Drop)]
+#[derive(Clone, Copy)]
 pub struct Product {
     pub width: u64,
     pub connectives: u64,
@@ -151,7 +153,7 @@ fn side_product(q: &[u8], side: Side, start: usize) -> Product
 }
 
 // What the width call answers: W and c.
-#[derive(Drop)]
+#[derive(Clone, Copy)]
 pub enum Measure {
     Refused(Refusal),
     Of(u64, u64),

@@ -1,4 +1,6 @@
 // Writes the derivation of a theorem.
+#![tactic(auto)]
+
 ghost use Rattle.std.specs.Prelude.{◌≡◌, [], ◌∷◌, ℕ, ◌+◌, ◌≤◌, length, take};
 ghost use Rattle.std.proofs.lemmas.List.Edits.{sets};
 ghost use Rattle.calculus.specs.Fold.{fold, SUM, Each};
@@ -20,7 +22,7 @@ use prover::Finding;
 use question::{Reading, Refusal};
 use sequent::{Placing, Reduction, Running};
 
-#[derive(Drop)]
+#[derive(Clone, Copy)]
 pub enum Writing {
     Refused(Refusal),
     // Spent, full or refuted: the verdict.
@@ -32,7 +34,7 @@ pub enum Writing {
 }
 
 // The place behind what was written of premises, and the stores made for them.
-#[derive(Drop)]
+#[derive(Clone, Copy)]
 struct Emitted {
     end: usize,
     stores: usize,
