@@ -1,4 +1,4 @@
-use Rattle.std.proofs.Common.{◌≡◌, ℕ, ◌+◌, ◌*◌, ◌^◌, ◌≤◌, ◌<◌, sym, ap, ◌∙◌, subst, arith, rules}
+use Rattle.std.proofs.Common.{◌≡◌, ℕ, ◌+◌, ◌^◌, ◌≤◌, ◌<◌, sym, ap, ◌∙◌, subst, arith, rules}
 use Rattle.calculus.specs.declared.Kind.{Kind}
 use Rattle.calculus.specs.declared.Outcome.{Outcome}
 use Rattle.calculus.specs.Limits.{CONNECTIVES}
@@ -6,7 +6,7 @@ use Rattle.calculus.specs.Syntax.{c as connectives_of}
 use Rattle.calculus.specs.Tree.{outcome}
 use Rattle.sequent.specs.declared.Rule.{Rule}
 use Rattle.sequent.specs.View.{view, sequent_of}
-use Rattle.sequent.specs.Compounds.{compound_at, rule_for, premise_by, Makes}
+use Rattle.sequent.specs.Compounds.{compound_at, rule_for, premise_by}
 use Rattle.sequent.proofs.Goods.{premises_made, few, command_made, makes_next, premise_asks, made_is, made_good, made_stores, made_clear}
 use Rattle.prover.specs.Runs.{ended, Ran}
 use Rattle.prover.proofs.Runs.{Ahead, answered, closings_small, pairings_small, ahead_starts, ahead_goes, ahead_stops, ahead_ends}

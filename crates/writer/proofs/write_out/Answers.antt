@@ -1,7 +1,6 @@
-use Rattle.std.proofs.Common.{◌+◌, ◌*◌, ◌^◌, ◌≤◌, length, refl, ap, ◌∙◌, arith}
+use Rattle.std.proofs.Common.{length, refl, ap, ◌∙◌, arith}
 use lib.Seq.{sets}
 use Rattle.calculus.specs.Bytes.{question}
-use Rattle.calculus.specs.Limits.{CONNECTIVES}
 use Rattle.calculus.specs.Syntax.{Sequent}
 use Rattle.calculus.specs.Tree.{tree}
 use Rattle.calculus.specs.Derivation.{derivation}
