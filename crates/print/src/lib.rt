@@ -7,6 +7,7 @@ ghost use Rattle.question.specs.Answers.{number_of, place_of};
 ghost use Rattle.print.specs.Text.{ascii, blank, newline, decimal, spaced, line, spelled, hexadecimal, Printed};
 
 use question::Refusal;
+use std::io::Result;
 
 // A word from a place on; answers the place behind it.
 pub fn put_word(word: &[u8], out: &mut [u8], at: usize) -> usize
@@ -124,35 +125,35 @@ pub fn put_refused(refusal: Refusal, out: &mut [u8]) -> usize
     put_line(b"refused", &numbers, out, 0)
 }
 
-// Writes the first n bytes of a text to standard output.
-pub fn write(text: &[u8], n: usize)
+// Writes the first n bytes of a text to standard output, or answers why not all were written.
+pub fn write(rt: &impl Print, text: &[u8], n: usize) -> Result<()>
     requires { n ≤ length text.now }
 {
-    io::write_all(1, &text[..n]);
+    rt.write_all(&text[..n])
 }
 
 // Writes a line of a word and numbers, 128 bytes at most.
-pub fn write_line(word: &[u8], numbers: &[u64])
+pub fn write_line(rt: &impl Print, word: &[u8], numbers: &[u64]) -> Result<()>
     requires { length word.now + 21 * length numbers.now + 1 ≤ 128 }
 {
     let mut text = [0u8; 128];
     let end = put_line(word, numbers, &mut text, 0);
-    write(&text, end);
+    write(rt, &text, end)
 }
 
 // Writes a line of a word and bytes in hexadecimal, 12,400 bytes at most.
-pub fn write_bytes(word: &[u8], bytes: &[u8])
+pub fn write_bytes(rt: &impl Print, word: &[u8], bytes: &[u8]) -> Result<()>
     requires { length word.now + 3 * length bytes.now + 1 ≤ 12400 }
 {
     let mut text = [0u8; 12400];
     let first = put_word(word, &mut text, 0);
     let end = put_bytes(bytes, &mut text, first);
-    write(&text, end);
+    write(rt, &text, end)
 }
 
 // Writes the line `refused n p`.
-pub fn write_refused(refusal: Refusal) {
+pub fn write_refused(rt: &impl Print, refusal: Refusal) -> Result<()> {
     let mut text = [0u8; 50];
     let end = put_refused(refusal, &mut text);
-    write(&text, end);
+    write(rt, &text, end)
 }
