@@ -1,8 +1,8 @@
-use Rattle.std.proofs.Common.{[], ◌∷◌, ◌+◌, ◌≤◌, ◌<◌, length, refl, sym, ap, subst, arith}
+use Rattle.std.proofs.Common.{[], ◌∷◌, ◌+◌, ◌≤◌, ◌<◌, refl, sym, ap, subst, arith}
 use Rattle.calculus.specs.Syntax.{Sequent, c as connectives}
 use Rattle.sequent.specs.declared.Rule.{Rule}
 use Rattle.sequent.specs.View.{view, sequent_of}
-use Rattle.sequent.specs.Compounds.{premise_by, Makes, compound_at, rule_for}
+use Rattle.sequent.specs.Compounds.{premise_by, compound_at, rule_for}
 use Rattle.sequent.proofs.Goods.{premises_made, few, makes_next, premise_asks, made_is, made_good, made_stores, command_made}
 use Rattle.checker.specs.Walks.{Roomy, Walks}
 use Rattle.checker.proofs.Walking.{cut_short, walk_stopped, walk_closed, walk_paired, walk_reduced, Ahead, ahead_starts, ahead_goes, ahead_stops, ahead_ends, roomy_next}

@@ -1,6 +1,6 @@
-use Rattle.std.proofs.Common.{◌≡◌, ◌+◌, get_or, sym, ◌∙◌}
+use Rattle.std.proofs.Common.{◌+◌, get_or, sym, ◌∙◌}
 use Rattle.std.proofs.Math.ListN.{get_elem?}
-use Rattle.checker.proofs.Commands.{closed, not_closed, unknown, pairing, reduction}
+use Rattle.checker.proofs.Commands.{closed, not_closed, reduction}
 use Rattle.checker.proofs.obey.Goals as goal
 
 pub returns-then-closes : goal.returns-then-closes
