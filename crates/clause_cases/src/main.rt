@@ -5,75 +5,91 @@
 ghost use Rattle.std.specs.Prelude.{◌≤◌, length};
 
 use clauses::Answer;
+use std::io;
 
 // One line: a word with the number of a refusal, and its place.
-fn refused(word: &[u8], at: usize)
+fn refused(rt: &impl Print, word: &[u8], at: usize) -> io::Result<()>
     requires { length word.now ≤ 20 }
 {
     let numbers = [at as u64];
-    print::write_line(word, &numbers);
+    print::write_line(rt, word, &numbers)
 }
 
 // One line: what the call answers.
-fn ask(q: &[u8]) {
+fn ask(rt: &impl Print, q: &[u8]) -> io::Result<()> {
     let a = clauses::decide_clauses(q);
     match a {
-        Answer::Refused(r) => print::write_refused(r),
-        Answer::RightFormula(at) => refused(b"right formula 13", at),
-        Answer::NotClause(at) => refused(b"not clause 14", at),
-        Answer::ManyPositive(at) => refused(b"many positive 15", at),
+        Answer::Refused(r) => print::write_refused(rt, r),
+        Answer::RightFormula(at) => refused(rt, b"right formula 13", at),
+        Answer::NotClause(at) => refused(rt, b"not clause 14", at),
+        Answer::ManyPositive(at) => refused(rt, b"many positive 15", at),
         Answer::Theorem(rounds) => {
             let numbers = [rounds as u64];
-            print::write_line(b"theorem", &numbers);
+            print::write_line(rt, b"theorem", &numbers)
         }
         Answer::Refuted(state, rounds) => {
             let numbers = [state, rounds as u64];
-            print::write_line(b"refuted", &numbers);
+            print::write_line(rt, b"refuted", &numbers)
         }
     }
 }
 
 // No formulas; P; letter 63; P and NOT P; NOT P OR NOT Q; P, NOT P OR Q, NOT Q OR R, and the same from the last; P, Q,
 // NOT P OR (R OR NOT Q) with NOT R OR NOT S, and with NOT R.
-fn cases() {
-    ask(b"\x10\x00\x20\x00");
-    ask(b"\x10\x01\x01\x00\x20\x00");
-    ask(b"\x10\x01\x01\x3f\x20\x00");
-    ask(b"\x10\x02\x01\x00\x02\x01\x00\x20\x00");
-    ask(b"\x10\x01\x04\x02\x01\x00\x02\x01\x01\x20\x00");
-    ask(b"\x10\x03\x01\x00\x04\x02\x01\x00\x01\x01\x04\x02\x01\x01\x01\x02\x20\x00");
-    ask(b"\x10\x03\x04\x02\x01\x01\x01\x02\x04\x02\x01\x00\x01\x01\x01\x00\x20\x00");
+fn cases(rt: &impl Print) -> io::Result<()> {
+    ask(rt, b"\x10\x00\x20\x00")?;
+    ask(rt, b"\x10\x01\x01\x00\x20\x00")?;
+    ask(rt, b"\x10\x01\x01\x3f\x20\x00")?;
+    ask(rt, b"\x10\x02\x01\x00\x02\x01\x00\x20\x00")?;
+    ask(rt, b"\x10\x01\x04\x02\x01\x00\x02\x01\x01\x20\x00")?;
     ask(
+        rt,
+        b"\x10\x03\x01\x00\x04\x02\x01\x00\x01\x01\x04\x02\x01\x01\x01\x02\x20\x00",
+    )?;
+    ask(
+        rt,
+        b"\x10\x03\x04\x02\x01\x01\x01\x02\x04\x02\x01\x00\x01\x01\x01\x00\x20\x00",
+    )?;
+    ask(
+        rt,
         b"\x10\x04\x01\x00\x01\x01\x04\x02\x01\x00\x04\x01\x02\x02\x01\x01\x04\x02\x01\x02\x02\x01\x03\x20\x00",
-    );
-    ask(b"\x10\x04\x01\x00\x01\x01\x04\x02\x01\x00\x04\x01\x02\x02\x01\x01\x02\x01\x02\x20\x00");
+    )?;
+    ask(
+        rt,
+        b"\x10\x04\x01\x00\x01\x01\x04\x02\x01\x00\x04\x01\x02\x02\x01\x01\x02\x01\x02\x20\x00",
+    )
 }
 
 // A chain of eight clauses from the last and from the first: a letter a round.
-fn chains() {
+fn chains(rt: &impl Print) -> io::Result<()> {
     ask(
+        rt,
         b"\x10\x08\x04\x02\x01\x06\x01\x07\x04\x02\x01\x05\x01\x06\x04\x02\x01\x04\x01\x05\x04\x02\x01\x03\x01\x04\x04\x02\x01\x02\x01\x03\x04\x02\x01\x01\x01\x02\x04\x02\x01\x00\x01\x01\x01\x00\x20\x00",
-    );
+    )?;
     ask(
+        rt,
         b"\x10\x08\x01\x00\x04\x02\x01\x00\x01\x01\x04\x02\x01\x01\x01\x02\x04\x02\x01\x02\x01\x03\x04\x02\x01\x03\x01\x04\x04\x02\x01\x04\x01\x05\x04\x02\x01\x05\x01\x06\x04\x02\x01\x06\x01\x07\x20\x00",
-    );
+    )
 }
 
 // 13: the right side has a formula, before 14. 14: the second formula is NOT NOT Q. 15: the second is P OR P. 14 before 15
 // in one formula, and an earlier 15 before a later 14.
-fn outside() {
-    ask(b"\x10\x01\x01\x00\x20\x01\x01\x00");
-    ask(b"\x10\x01\x02\x02\x01\x01\x20\x01\x01\x00");
-    ask(b"\x10\x02\x01\x00\x02\x02\x01\x01\x20\x00");
-    ask(b"\x10\x02\x01\x00\x04\x01\x00\x01\x00\x20\x00");
-    ask(b"\x10\x01\x04\x04\x01\x00\x01\x00\x02\x02\x01\x01\x20\x00");
-    ask(b"\x10\x02\x04\x01\x00\x01\x00\x02\x02\x01\x01\x20\x00");
+fn outside(rt: &impl Print) -> io::Result<()> {
+    ask(rt, b"\x10\x01\x01\x00\x20\x01\x01\x00")?;
+    ask(rt, b"\x10\x01\x02\x02\x01\x01\x20\x01\x01\x00")?;
+    ask(rt, b"\x10\x02\x01\x00\x02\x02\x01\x01\x20\x00")?;
+    ask(rt, b"\x10\x02\x01\x00\x04\x01\x00\x01\x00\x20\x00")?;
+    ask(
+        rt,
+        b"\x10\x01\x04\x04\x01\x00\x01\x00\x02\x02\x01\x01\x20\x00",
+    )?;
+    ask(rt, b"\x10\x02\x04\x01\x00\x01\x00\x02\x02\x01\x01\x20\x00")
 }
 
-fn main() {
-    cases();
-    chains();
-    outside();
-    ask(b"\x10\x01\x02");
-    ask(b"\x10\x01\x01\x40\x20\x00");
+fn main(rt: HostRuntime) -> io::Result<()> {
+    cases(&rt)?;
+    chains(&rt)?;
+    outside(&rt)?;
+    ask(&rt, b"\x10\x01\x02")?;
+    ask(&rt, b"\x10\x01\x01\x40\x20\x00")
 }

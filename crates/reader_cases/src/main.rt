@@ -5,73 +5,74 @@ ghost use Rattle.std.specs.Prelude.{◌≤◌, length};
 
 use calculus::Side;
 use question::Reading;
+use std::io;
 
 // One line: what reading the bytes answers.
-fn read(q: &[u8]) {
+fn read(rt: &impl Print, q: &[u8]) -> io::Result<()> {
     let reading = question::read(q);
     match reading {
-        Reading::Accepted => print::write_bytes(b"accepted", b""),
-        Reading::Refused(r) => print::write_refused(r),
+        Reading::Accepted => print::write_bytes(rt, b"accepted", b""),
+        Reading::Refused(r) => print::write_refused(rt, r),
     }
 }
 
 // 1: the one size over the longest question, whatever the bytes.
-fn too_long() {
+fn too_long(rt: &impl Print) -> io::Result<()> {
     let zeros = [0u8; 213];
-    read(&zeros);
+    read(rt, &zeros)?;
     let ones = [255u8; 213];
-    read(&ones);
+    read(rt, &ones)
 }
 
 // 2: where the left side's command is due, and where an operand is.
-fn cut() {
-    read(b"");
-    read(b"\x10");
-    read(b"\x10\x01\x01");
+fn cut(rt: &impl Print) -> io::Result<()> {
+    read(rt, b"")?;
+    read(rt, b"\x10")?;
+    read(rt, b"\x10\x01\x01")
 }
 
 // 3: two first bytes that are not the left side's command, and a command that no formula has.
-fn wrong_command() {
-    read(b"\x00");
-    read(b"\x20");
-    read(b"\x10\x01\x07");
+fn wrong_command(rt: &impl Print) -> io::Result<()> {
+    read(rt, b"\x00")?;
+    read(rt, b"\x20")?;
+    read(rt, b"\x10\x01\x07")
 }
 
 // 4: 17 formulas, on the left and on the right; 16 are read.
-fn many_formulas() {
-    read(b"\x10\x11");
-    read(b"\x10\xff");
-    read(b"\x10\x00\x20\x11");
+fn many_formulas(rt: &impl Print) -> io::Result<()> {
+    read(rt, b"\x10\x11")?;
+    read(rt, b"\x10\xff")?;
+    read(rt, b"\x10\x00\x20\x11")?;
     let mut q = [1u8; 36];
     q[0] = 0x10;
     q[1] = 16;
     q[34] = 0x20;
     q[35] = 0;
-    read(&q);
+    read(rt, &q)
 }
 
 // 5: letter 64, on the left and on the right; 63 is read.
-fn no_such_letter() {
-    read(b"\x10\x01\x01\x40");
-    read(b"\x10\x01\x01\xff");
-    read(b"\x10\x00\x20\x01\x01\x40");
-    read(b"\x10\x00\x20\x01\x01\x3f");
+fn no_such_letter(rt: &impl Print) -> io::Result<()> {
+    read(rt, b"\x10\x01\x01\x40")?;
+    read(rt, b"\x10\x01\x01\xff")?;
+    read(rt, b"\x10\x00\x20\x01\x01\x40")?;
+    read(rt, b"\x10\x00\x20\x01\x01\x3f")
 }
 
 // 6: NOT and AND 49 times.
-fn many_connectives() {
+fn many_connectives(rt: &impl Print) -> io::Result<()> {
     let mut nots = [2u8; 51];
     nots[0] = 0x10;
     nots[1] = 1;
-    read(&nots);
+    read(rt, &nots)?;
     let mut ands = [3u8; 51];
     ands[0] = 0x10;
     ands[1] = 1;
-    read(&ands);
+    read(rt, &ands)
 }
 
 // A letter on the right under 48 NOT is read, and under 49 it is not.
-fn most_connectives() {
+fn most_connectives(rt: &impl Print) -> io::Result<()> {
     let mut q = [2u8; 54];
     q[0] = 0x10;
     q[1] = 0;
@@ -79,7 +80,7 @@ fn most_connectives() {
     q[3] = 1;
     q[52] = 1;
     q[53] = 0;
-    read(&q);
+    read(rt, &q)?;
     let mut p = [2u8; 55];
     p[0] = 0x10;
     p[1] = 0;
@@ -87,18 +88,18 @@ fn most_connectives() {
     p[3] = 1;
     p[53] = 1;
     p[54] = 0;
-    read(&p);
+    read(rt, &p)
 }
 
 // 7: a byte behind the empty sequent.
-fn left_over() {
-    read(b"\x10\x00\x20\x00\x00");
-    read(b"\x10\x00\x20\x00\xff");
-    read(b"\x10\x00\x20\x00");
+fn left_over(rt: &impl Print) -> io::Result<()> {
+    read(rt, b"\x10\x00\x20\x00\x00")?;
+    read(rt, b"\x10\x00\x20\x00\xff")?;
+    read(rt, b"\x10\x00\x20\x00")
 }
 
 // The longest question: 16 formulas on a side, with 48 AND in the first.
-fn longest() {
+fn longest(rt: &impl Print) -> io::Result<()> {
     let mut q = [1u8; 212];
     q[0] = 0x10;
     q[1] = 16;
@@ -109,7 +110,7 @@ fn longest() {
         q[i] = 3;
         i += 1;
     }
-    read(&q);
+    read(rt, &q)
 }
 
 // A side's name and a place; answers the place behind them.
@@ -123,7 +124,7 @@ fn put_place(name: &[u8], place: usize, out: &mut [u8]) -> usize
 }
 
 // One line: a side, a place, and the formula handed out there.
-fn hand_out(q: &[u8], name: &[u8], side: Side, place: usize)
+fn hand_out(rt: &impl Print, q: &[u8], name: &[u8], side: Side, place: usize) -> io::Result<()>
     requires { (length q.now ≤ 212) × (length name.now ≤ 5) }
 {
     let f = question::formula(q, side, place);
@@ -131,32 +132,31 @@ fn hand_out(q: &[u8], name: &[u8], side: Side, place: usize)
     let first = put_place(name, place, &mut text);
     if f.len() == 0 {
         let end = print::put_word(b"no bytes\n", &mut text, first);
-        print::write(&text, end);
-        return;
+        return print::write(rt, &text, end);
     }
     let end = print::put_bytes(f, &mut text, first);
-    print::write(&text, end);
+    print::write(rt, &text, end)
 }
 
 // Case 4's question, with the place past the last on each side; then a question that is refused.
-fn formulas() {
+fn formulas(rt: &impl Print) -> io::Result<()> {
     let q = b"\x10\x01\x02\x04\x01\x00\x01\x01\x20\x01\x02\x01\x00";
-    hand_out(q, b"left", Side::Left, 0);
-    hand_out(q, b"left", Side::Left, 1);
-    hand_out(q, b"right", Side::Right, 0);
-    hand_out(q, b"right", Side::Right, 1);
-    hand_out(b"\x10\x01\x01\x00", b"left", Side::Left, 0);
+    hand_out(rt, q, b"left", Side::Left, 0)?;
+    hand_out(rt, q, b"left", Side::Left, 1)?;
+    hand_out(rt, q, b"right", Side::Right, 0)?;
+    hand_out(rt, q, b"right", Side::Right, 1)?;
+    hand_out(rt, b"\x10\x01\x01\x00", b"left", Side::Left, 0)
 }
 
-fn main() {
-    too_long();
-    cut();
-    wrong_command();
-    many_formulas();
-    no_such_letter();
-    many_connectives();
-    most_connectives();
-    left_over();
-    longest();
-    formulas();
+fn main(rt: HostRuntime) -> io::Result<()> {
+    too_long(&rt)?;
+    cut(&rt)?;
+    wrong_command(&rt)?;
+    many_formulas(&rt)?;
+    no_such_letter(&rt)?;
+    many_connectives(&rt)?;
+    most_connectives(&rt)?;
+    left_over(&rt)?;
+    longest(&rt)?;
+    formulas(&rt)
 }

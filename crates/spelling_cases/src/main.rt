@@ -5,115 +5,136 @@
 ghost use Rattle.std.specs.Prelude.{◌≤◌, length};
 
 use spelling::Spelling;
+use std::io;
 
 // One line: what the call answered.
-fn answer(a: Spelling) {
+fn answer(rt: &impl Print, a: Spelling) -> io::Result<()> {
     match a {
-        Spelling::Refused(r) => print::write_refused(r),
+        Spelling::Refused(r) => print::write_refused(rt, r),
         Spelling::NoSpace(n) => {
             let numbers = [n as u64];
-            print::write_line(b"no space 11", &numbers);
+            print::write_line(rt, b"no space 11", &numbers)
         }
         Spelling::Spelled(n) => {
             let numbers = [n as u64];
-            print::write_line(b"spelled", &numbers);
+            print::write_line(rt, b"spelled", &numbers)
         }
     }
 }
 
 // One line: what a buffer of 40 bytes or fewer holds.
-fn show(buffer: &[u8])
+fn show(rt: &impl Print, buffer: &[u8]) -> io::Result<()>
     requires { length buffer.now ≤ 40 }
 {
     if buffer.len() == 0 {
-        print::write_bytes(b"buffer", buffer);
-        return;
+        return print::write_bytes(rt, b"buffer", buffer);
     }
-    print::write_bytes(b"buffer ", buffer);
+    print::write_bytes(rt, b"buffer ", buffer)
 }
 
 // What the call answers, and what the lent buffer holds after it.
-fn lend(q: &[u8], buffer: &mut [u8])
+fn lend(rt: &impl Print, q: &[u8], buffer: &mut [u8]) -> io::Result<()>
     requires { length buffer.old ≤ 40 }
 {
-    answer(spelling::spell(q, buffer));
-    show(buffer);
+    answer(rt, spelling::spell(q, buffer))?;
+    show(rt, buffer)
 }
 
 // A buffer of 16 bytes.
-fn spell(q: &[u8]) {
+fn spell(rt: &impl Print, q: &[u8]) -> io::Result<()> {
     let mut buffer = [0x99u8; 16];
-    lend(q, &mut buffer);
+    lend(rt, q, &mut buffer)
 }
 
 // No formulas; both sides in another order; equal formulas once on each side, with the counts lowered; the first byte that
 // differs and not the last; six bytes before five; P OR Q twice.
-fn cases() {
-    spell(b"\x10\x00\x20\x00");
-    spell(b"\x10\x02\x01\x02\x01\x01\x20\x02\x01\x04\x01\x03");
-    spell(b"\x10\x03\x01\x02\x01\x01\x01\x02\x20\x02\x01\x02\x01\x02");
-    spell(b"\x10\x02\x03\x01\x05\x01\x01\x03\x01\x04\x01\x09\x20\x00");
-    spell(b"\x10\x02\x03\x01\x00\x01\x01\x02\x02\x02\x02\x01\x00\x20\x00");
-    spell(b"\x10\x02\x04\x01\x00\x01\x01\x04\x01\x00\x01\x01\x20\x00");
+fn cases(rt: &impl Print) -> io::Result<()> {
+    spell(rt, b"\x10\x00\x20\x00")?;
+    spell(rt, b"\x10\x02\x01\x02\x01\x01\x20\x02\x01\x04\x01\x03")?;
+    spell(
+        rt,
+        b"\x10\x03\x01\x02\x01\x01\x01\x02\x20\x02\x01\x02\x01\x02",
+    )?;
+    spell(
+        rt,
+        b"\x10\x02\x03\x01\x05\x01\x01\x03\x01\x04\x01\x09\x20\x00",
+    )?;
+    spell(
+        rt,
+        b"\x10\x02\x03\x01\x00\x01\x01\x02\x02\x02\x02\x01\x00\x20\x00",
+    )?;
+    spell(
+        rt,
+        b"\x10\x02\x04\x01\x00\x01\x01\x04\x01\x00\x01\x01\x20\x00",
+    )
 }
 
 // Sixteen formulas: letters 15 to 0, and letter 1 each time.
-fn sixteen() {
+fn sixteen(rt: &impl Print) -> io::Result<()> {
     let mut buffer = [0x99u8; 40];
     lend(
+        rt,
         b"\x10\x10\x01\x0f\x01\x0e\x01\x0d\x01\x0c\x01\x0b\x01\x0a\x01\x09\x01\x08\x01\x07\x01\x06\x01\x05\x01\x04\x01\x03\x01\x02\x01\x01\x01\x00\x20\x00",
         &mut buffer,
-    );
+    )?;
     let mut q = [1u8; 36];
     q[0] = 0x10;
     q[1] = 16;
     q[34] = 0x20;
     q[35] = 0;
-    spell(&q);
+    spell(rt, &q)
 }
 
 // 11: ten bytes, beside buffers of 0, 9, 10 and 12.
-fn no_space() {
+fn no_space(rt: &impl Print) -> io::Result<()> {
     let q = b"\x10\x03\x01\x02\x01\x01\x01\x02\x20\x02\x01\x02\x01\x02";
     let mut none: [u8; 0] = [];
-    lend(q, &mut none);
+    lend(rt, q, &mut none)?;
     let mut nine = [0x99u8; 9];
-    lend(q, &mut nine);
+    lend(rt, q, &mut nine)?;
     let mut ten = [0x99u8; 10];
-    lend(q, &mut ten);
+    lend(rt, q, &mut ten)?;
     let mut twelve = [0x99u8; 12];
-    lend(q, &mut twelve);
+    lend(rt, q, &mut twelve)
 }
 
 // An operand that is due, letter 64 on the right, and a byte left over, which comes before 11.
-fn refused() {
-    spell(b"\x10\x01\x01");
-    spell(b"\x10\x01\x01\x02\x20\x01\x01\x40");
+fn refused(rt: &impl Print) -> io::Result<()> {
+    spell(rt, b"\x10\x01\x01")?;
+    spell(rt, b"\x10\x01\x01\x02\x20\x01\x01\x40")?;
     let mut none: [u8; 0] = [];
-    lend(b"\x10\x01\x01\x02\x20\x00\x01", &mut none);
+    lend(rt, b"\x10\x01\x01\x02\x20\x00\x01", &mut none)
 }
 
 // The first n bytes of a buffer, spelled.
-fn spell_first(buffer: &[u8], n: usize) {
+fn spell_first(rt: &impl Print, buffer: &[u8], n: usize) -> io::Result<()> {
     if n <= buffer.len() {
-        spell(&buffer[0..n]);
+        spell(rt, &buffer[0..n])?;
     }
+    Ok(())
 }
 
 // The spelling of a spelling.
-fn again(q: &[u8]) {
+fn again(rt: &impl Print, q: &[u8]) -> io::Result<()> {
     let mut buffer = [0x99u8; 16];
     let a = spelling::spell(q, &mut buffer);
     if let Spelling::Spelled(n) = a {
-        spell_first(&buffer, n);
+        spell_first(rt, &buffer, n)?;
     }
+    Ok(())
 }
 
-fn main() {
-    cases();
-    sixteen();
-    no_space();
-    refused();
-    again(b"\x10\x03\x01\x02\x01\x01\x01\x02\x20\x02\x01\x02\x01\x02");
-    again(b"\x10\x02\x03\x01\x00\x01\x01\x02\x02\x02\x02\x01\x00\x20\x00");
+fn main(rt: HostRuntime) -> io::Result<()> {
+    cases(&rt)?;
+    sixteen(&rt)?;
+    no_space(&rt)?;
+    refused(&rt)?;
+    again(
+        &rt,
+        b"\x10\x03\x01\x02\x01\x01\x01\x02\x20\x02\x01\x02\x01\x02",
+    )?;
+    again(
+        &rt,
+        b"\x10\x02\x03\x01\x00\x01\x01\x02\x02\x02\x02\x01\x00\x20\x00",
+    )
 }

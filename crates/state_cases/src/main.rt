@@ -5,92 +5,95 @@
 ghost use Rattle.std.specs.Prelude.{◌≤◌, length};
 
 use states::Listing;
+use std::io;
 
 // One line: what the call answered.
-fn answer(a: Listing) {
+fn answer(rt: &impl Print, a: Listing) -> io::Result<()> {
     match a {
-        Listing::Refused(r) => print::write_refused(r),
+        Listing::Refused(r) => print::write_refused(rt, r),
         Listing::ManyLetters(n) => {
             let numbers = [n as u64];
-            print::write_line(b"many letters 12", &numbers);
+            print::write_line(rt, b"many letters 12", &numbers)
         }
         Listing::NoSpace(n) => {
             let numbers = [n as u64];
-            print::write_line(b"no space 11", &numbers);
+            print::write_line(rt, b"no space 11", &numbers)
         }
         Listing::Listed(n) => {
             let numbers = [n as u64];
-            print::write_line(b"listed", &numbers);
+            print::write_line(rt, b"listed", &numbers)
         }
     }
 }
 
 // One line: what a slice of five places or fewer holds.
-fn show(list: &[u64])
+fn show(rt: &impl Print, list: &[u64]) -> io::Result<()>
     requires { length list.now ≤ 5 }
 {
-    print::write_line(b"slice", list);
+    print::write_line(rt, b"slice", list)
 }
 
 // What the call answers, and what the lent slice holds after it.
-fn lend(q: &[u8], list: &mut [u64])
+fn lend(rt: &impl Print, q: &[u8], list: &mut [u64]) -> io::Result<()>
     requires { length list.old ≤ 5 }
 {
-    answer(states::refuting_states(q, list));
-    show(list);
+    answer(rt, states::refuting_states(q, list))?;
+    show(rt, list)
 }
 
 // Five places that hold 99.
-fn list(q: &[u8]) {
+fn list(rt: &impl Print, q: &[u8]) -> io::Result<()> {
     let mut places = [99u64; 5];
-    lend(q, &mut places);
+    lend(rt, q, &mut places)
 }
 
 // Cases 1, 2, 3, 6, 8 and 9.
-fn cases() {
-    list(b"\x10\x00\x20\x00");
-    list(b"\x10\x01\x01\x00\x20\x01\x01\x00");
-    list(b"\x10\x01\x01\x00\x20\x01\x01\x01");
-    list(b"\x10\x01\x04\x01\x00\x01\x01\x20\x01\x01\x00");
-    list(b"\x10\x01\x06\x01\x00\x01\x00\x20\x00");
+fn cases(rt: &impl Print) -> io::Result<()> {
+    list(rt, b"\x10\x00\x20\x00")?;
+    list(rt, b"\x10\x01\x01\x00\x20\x01\x01\x00")?;
+    list(rt, b"\x10\x01\x01\x00\x20\x01\x01\x01")?;
+    list(rt, b"\x10\x01\x04\x01\x00\x01\x01\x20\x01\x01\x00")?;
+    list(rt, b"\x10\x01\x06\x01\x00\x01\x00\x20\x00")?;
     list(
+        rt,
         b"\x10\x00\x20\x01\x05\x03\x05\x01\x00\x04\x01\x01\x01\x02\x05\x01\x02\x01\x03\x05\x03\x01\x00\x01\x01\x01\x03",
-    );
+    )
 }
 
 // 11: three states, letters 1 and 4 of OR on the left, beside slices of 0, 2 and 3 places.
-fn no_space() {
+fn no_space(rt: &impl Print) -> io::Result<()> {
     let q = b"\x10\x01\x04\x01\x01\x01\x04\x20\x00";
     let mut none: [u64; 0] = [];
-    lend(q, &mut none);
+    lend(rt, q, &mut none)?;
     let mut two = [99u64; 2];
-    lend(q, &mut two);
+    lend(rt, q, &mut two)?;
     let mut three = [99u64; 3];
-    lend(q, &mut three);
-    list(q);
+    lend(rt, q, &mut three)?;
+    list(rt, q)
 }
 
 // 12: 17 letters, which comes before 11; with 16 there is one state.
-fn many_letters() {
+fn many_letters(rt: &impl Print) -> io::Result<()> {
     let q =
         b"\x10\x10\x01\x00\x01\x01\x01\x02\x01\x03\x01\x04\x01\x05\x01\x06\x01\x07\x01\x08\x01\x09\x01\x0a\x01\x0b\x01\x0c\x01\x0d\x01\x0e\x01\x3f\x20\x01\x01\x10";
     let mut none: [u64; 0] = [];
-    lend(q, &mut none);
-    list(q);
+    lend(rt, q, &mut none)?;
+    list(rt, q)?;
     list(
+        rt,
         b"\x10\x10\x01\x00\x01\x01\x01\x02\x01\x03\x01\x04\x01\x05\x01\x06\x01\x07\x01\x08\x01\x09\x01\x0a\x01\x0b\x01\x0c\x01\x0d\x01\x0e\x01\x3f\x20\x00",
-    );
+    )
 }
 
 // OR of letters 32 and 63 on the left.
-fn high_letters() {
-    list(b"\x10\x01\x04\x01\x20\x01\x3f\x20\x00");
+fn high_letters(rt: &impl Print) -> io::Result<()> {
+    list(rt, b"\x10\x01\x04\x01\x20\x01\x3f\x20\x00")
 }
 
-fn main() {
-    cases();
-    no_space();
-    many_letters();
-    high_letters();
-    list(b"\x10\x01\x01");
+fn main(rt: HostRuntime) -> io::Result<()> {
+    cases(&rt)?;
+    no_space(&rt)?;
+    many_letters(&rt)?;
+    high_letters(&rt)?;
+    list(&rt, b"\x10\x01\x01")
 }
