@@ -25,7 +25,7 @@ into=${DESTDIR:-}$prefix
 
 archive=${GEKUNDAY_LIB_DIR:-$root/target/staticlib}/libgekunday.a
 if [ -z "${GEKUNDAY_LIB_DIR:-}" ] && [ ! -f "$archive" ]; then
-    (cd "$root" && rt staticlib gekunday)
+    bash "$root/tools/build" archive
 fi
 
 mkdir -p "$into/include" "$into/lib/pkgconfig"

@@ -19,7 +19,7 @@ fn main() {
     println!("cargo:rerun-if-changed={}", archive.display());
     if !archive.is_file() {
         eprintln!(
-            "gekunday: no {}; run `rt staticlib gekunday` in the repository, or set GEKUNDAY_LIB_DIR",
+            "gekunday: no {}; run `bash tools/build archive` in the repository, or set GEKUNDAY_LIB_DIR",
             archive.display()
         );
         exit(1);

@@ -2,7 +2,7 @@
 //! spelled here, from the tree, the truth table and the checker written apart from the library; for the questions that
 //! document 01 tries by hand, and at the limits, it also stands here word for word.
 //!
-//! The program is the file that GEKUNDAY_ASK names, by default ../target/bin/ask (`rt check ask` proves and builds it).
+//! The program is the file that GEKUNDAY_ASK names, by default ../target/bin/ask (`bash tools/build ask` proves and builds it).
 //! Where there is none, the tests fail.
 //!
 //! `ask` has the one budget of 1,000,000, so document 01's case 10 (budgets 7 and 8) is in `cases.rs` only. No question
@@ -36,7 +36,7 @@ fn start() -> Child {
     match Command::new(&program).stdin(Stdio::piped()).stdout(Stdio::piped()).stderr(Stdio::piped()).spawn() {
         Ok(child) => child,
         Err(error) => {
-            panic!("{}: {error}; run `rt check ask` in the repository, or set GEKUNDAY_ASK", program.display())
+            panic!("{}: {error}; run `bash tools/build ask` in the repository, or set GEKUNDAY_ASK", program.display())
         }
     }
 }

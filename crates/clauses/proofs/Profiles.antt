@@ -17,12 +17,11 @@ use Rattle.calculus.proofs.Rounds.{light_all_state}
 use Rattle.question.specs.Positions.{Well, formula_at, end_of}
 use Rattle.question.proofs.Parts.{NextDue, next_due}
 use Rattle.clauses.specs.declared.Gathered.{Gathered}
-use Rattle.clauses.specs.declared.Step.{Step}
 use Rattle.clauses.specs.declared.Step.TheVariants.{Next, Other as OtherStep}
 use Rattle.clauses.specs.declared.Masks.{Masks}
 use Rattle.clauses.specs.declared.Form.{Form}
 use Rattle.clauses.specs.declared.Form.TheVariants.{Single as One, Many, Other}
-use Rattle.clauses.specs.Walks.{clause_all, with_clause, ahead, total, Within}
+use Rattle.clauses.specs.Walks.{clause_all, with_clause, total, Within}
 use Rattle.clauses.specs.Tables.{Sized, Stored, form_by, form_at}
 use Rattle.clauses.proofs.Tables.{stored_put}
 

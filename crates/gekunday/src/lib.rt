@@ -1,4 +1,4 @@
-// The library's calls, for Rattle and for C.
+// The library's calls, for Rattle, and what each answers C: a number and words. The exports stand in `gekunday_c`.
 #![tactic(auto)]
 
 ghost use Rattle.std.specs.Prelude.{◌≡◌, ◌↔◌, [], ◌∷◌, ℕ, take};
@@ -321,8 +321,7 @@ fn part_of(q: &[u8], side: u32, place: usize) -> Part
 }
 
 // Decides a question within a budget of reductions.
-#[unsafe(no_mangle)]
-pub extern "C" fn gekunday_decide(q: &[u8], budget: u64, out: &mut [u64; 4]) -> u32
+pub fn gekunday_decide(q: &[u8], budget: u64, out: &mut [u64; 4]) -> u32
     ensures number { result ≡ (decide_reply q.now budget).number }
     ensures words { out.new ≡ decide_words q.now budget }
 {
@@ -344,8 +343,7 @@ pub extern "C" fn gekunday_decide(q: &[u8], budget: u64, out: &mut [u64; 4]) -> 
 }
 
 // The width of a question, and its connectives.
-#[unsafe(no_mangle)]
-pub extern "C" fn gekunday_width(q: &[u8], out: &mut [u64; 2]) -> u32
+pub fn gekunday_width(q: &[u8], out: &mut [u64; 2]) -> u32
     ensures number { result ≡ (width_reply q.now).number }
     ensures words { out.new ≡ filled 2 (width_reply q.now).values }
 {
@@ -355,8 +353,7 @@ pub extern "C" fn gekunday_width(q: &[u8], out: &mut [u64; 2]) -> u32
 }
 
 // The part of a question that is the formula at a place of a side: 0 left, 1 right.
-#[unsafe(no_mangle)]
-pub extern "C" fn gekunday_formula(q: &[u8], side: u32, place: usize, out: &mut [u64; 2]) -> u32
+pub fn gekunday_formula(q: &[u8], side: u32, place: usize, out: &mut [u64; 2]) -> u32
     ensures number { result ≡ 0 }
     ensures words { out.new ≡ formula_words q.now side place }
 {
@@ -366,8 +363,7 @@ pub extern "C" fn gekunday_formula(q: &[u8], side: u32, place: usize, out: &mut 
 }
 
 // Decides a question, and writes the derivation of a theorem.
-#[unsafe(no_mangle)]
-pub extern "C" fn gekunday_derive(
+pub fn gekunday_derive(
     q: &[u8],
     budget: u64,
     buffer: &mut [u8],
@@ -383,8 +379,7 @@ pub extern "C" fn gekunday_derive(
 }
 
 // Checks a derivation of a question.
-#[unsafe(no_mangle)]
-pub extern "C" fn gekunday_check(q: &[u8], derivation: &[u8], out: &mut [u64; 1]) -> u32
+pub fn gekunday_check(q: &[u8], derivation: &[u8], out: &mut [u64; 1]) -> u32
     ensures number { result ≡ (check_reply q.now derivation.now).number }
     ensures words { out.new ≡ filled 1 (check_reply q.now derivation.now).values }
 {
@@ -394,8 +389,7 @@ pub extern "C" fn gekunday_check(q: &[u8], derivation: &[u8], out: &mut [u64; 1]
 }
 
 // Lists every state that makes a question false.
-#[unsafe(no_mangle)]
-pub extern "C" fn gekunday_states(q: &[u8], list: &mut [u64], out: &mut [u64; 1]) -> u32
+pub fn gekunday_states(q: &[u8], list: &mut [u64], out: &mut [u64; 1]) -> u32
     ensures number { result ≡ (list_states q.now list.old).reply.number }
     ensures words { out.new ≡ filled 1 (list_states q.now list.old).reply.values }
     ensures written { list.new ≡ (list_states q.now list.old).buffer }
@@ -406,8 +400,7 @@ pub extern "C" fn gekunday_states(q: &[u8], list: &mut [u64], out: &mut [u64; 1]
 }
 
 // Writes the standard spelling of a question.
-#[unsafe(no_mangle)]
-pub extern "C" fn gekunday_spell(q: &[u8], buffer: &mut [u8], out: &mut [u64; 1]) -> u32
+pub fn gekunday_spell(q: &[u8], buffer: &mut [u8], out: &mut [u64; 1]) -> u32
     ensures number { result ≡ (spell q.now buffer.old).reply.number }
     ensures words { out.new ≡ filled 1 (spell q.now buffer.old).reply.values }
     ensures written { buffer.new ≡ (spell q.now buffer.old).buffer }
@@ -418,8 +411,7 @@ pub extern "C" fn gekunday_spell(q: &[u8], buffer: &mut [u8], out: &mut [u64; 1]
 }
 
 // Decides a question of the clause profile by unit clauses alone.
-#[unsafe(no_mangle)]
-pub extern "C" fn gekunday_clauses(q: &[u8], out: &mut [u64; 3]) -> u32
+pub fn gekunday_clauses(q: &[u8], out: &mut [u64; 3]) -> u32
     ensures number { result ≡ (clauses_reply q.now).number }
     ensures words { out.new ≡ filled 3 (clauses_reply q.now).values }
 {

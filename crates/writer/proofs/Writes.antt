@@ -25,15 +25,13 @@ use Rattle.sequent.specs.declared.Rule.{Rule}
 use Rattle.sequent.specs.Rule.{placings}
 use Rattle.sequent.proofs.Lists.{each_unmap}
 use Rattle.sequent.proofs.Placings.{OneOrTwo, next_ends, next_each, Summed, sum_starts, sum_goes, sum_ends}
+use Rattle.sequent.specs.declared.Reduction.{Reduction}
 use Rattle.prover.specs.declared.Finding.{Finding}
 use Rattle.prover.specs.declared.Finding.TheVariants.{Closed, Paired, Open, Full as FullFound, Spent as SpentFound, Reduce}
 use Rattle.prover.specs.Inner.{inner_of}
-use Rattle.prover.specs.contracts.Finding.{the_type}
 use Rattle.calculus.specs.Syntax.{Seq}
 use Rattle.writer.specs.declared.Emitted.{Emitted}
 use Rattle.writer.specs.Emits.{Provable, derivations, Emits}
-use denote.Enum.Declared.{tag_of}
-use types.Run.{OneOf, miss}
 
 -- ---- storing bytes
 
@@ -84,16 +82,17 @@ theorem_goes S h = go (step S) (ap (λ (t : Tree). t.end) (sym (tree_grows S)) �
     go (reduced s i x) e = tt
 
 -- A theorem's step is closed or reduced.
-pub no_other : {Q : Type 0} (T : List ℕ) (N : Seq ℕ) (S : Sequent) (r : Finding) → inner_of T N r ≡ inner 1 S → (tree S).end ≡ Theorem → OneOf (2 ∷ 3 ∷ 4 ∷ []) (tag_of the_type r) → Q
-no_other {Q} T N S r e h k = go r (subst Goes (sym e) (theorem_goes S h)) k
+pub no_other : {Q : Type 0} (T : List ℕ) (N : Seq ℕ) (S : Sequent) (r : Finding) → inner_of T N r ≡ inner 1 S → (tree S).end ≡ Theorem
+    → ((k : ℕ) → r ≡ Closed k → ⊥) → ((i j : ℕ) → r ≡ Paired i j → ⊥) → ((u : Reduction) → r ≡ Reduce u → ⊥) → Q
+no_other {Q} T N S r e h p q u = go r (subst Goes (sym e) (theorem_goes S h)) p q u
   where
-    go : (r : Finding) → Goes (inner_of T N r) → OneOf (2 ∷ 3 ∷ 4 ∷ []) (tag_of the_type r) → Q
-    go (Closed j) g k = absurd (miss (2 ∷ 3 ∷ 4 ∷ []) 0 tt k)
-    go (Paired i j) g k = absurd (miss (2 ∷ 3 ∷ 4 ∷ []) 1 tt k)
-    go (Open σ) g k = absurd g
-    go FullFound g k = absurd g
-    go SpentFound g k = absurd g
-    go (Reduce u) g k = absurd (miss (2 ∷ 3 ∷ 4 ∷ []) 5 tt k)
+    go : (r : Finding) → Goes (inner_of T N r) → ((k : ℕ) → r ≡ Closed k → ⊥) → ((i j : ℕ) → r ≡ Paired i j → ⊥) → ((u : Reduction) → r ≡ Reduce u → ⊥) → Q
+    go (Closed j) g p q u = absurd (p j refl)
+    go (Paired i j) g p q u = absurd (q i j refl)
+    go (Open σ) g p q u = absurd g
+    go FullFound g p q u = absurd g
+    go SpentFound g p q u = absurd g
+    go (Reduce r) g p q u = absurd (u r refl)
 
 reduced_tree : (S : Sequent) (s : Side) (i : ℕ) (x : Compound) → is_due s i x ≡ inner 1 S → tree S ≡ under (reduce s i x.connective) (chain tree (premises s i x S))
 reduced_tree S s i x e = tree_grows S ∙ ap (grow tree S) (due_step (step S) s i x (sym e))
