@@ -1,7 +1,8 @@
 // Decides the question on standard input, and prints its verdict and a theorem's derivation.
 #![tactic(auto)]
 
-ghost use Rattle.std.specs.Prelude.{◌≡◌, ◌++◌, ◌+◌, ◌*◌, ◌≤◌, length, drop};
+ghost use Rattle.std.specs.Prelude.{◌≡◌, ◌++◌, ◌+◌, ◌*◌, ◌<◌, ◌≤◌, length, take, drop, IfOk};
+ghost use Rattle.std.specs.Io.KnownBytes.{Consumes, IsAtEnd};
 ghost use Rattle.calculus.specs.Bytes.{question};
 ghost use Rattle.calculus.specs.Derivation.{derivation};
 ghost use Rattle.calculus.specs.Reading.{reading, accepted};
@@ -10,6 +11,8 @@ ghost use Rattle.print.specs.Text.{Printed};
 ghost use Rattle.ask.specs.Output.{INPUT, BUDGET, BUFFER, TEXT, derivation_line, verdict_text, ask_text};
 
 use calculus::{Kind, Verdict};
+use std::io;
+use std::io::Read;
 
 // The bytes read: those of the longest question, and one more.
 const INPUT: usize = question::LONGEST_QUESTION + 1;
@@ -86,10 +89,27 @@ fn input() -> [u8; INPUT]
     [0; INPUT]
 }
 
-fn main() {
+// Reads until the buffer is full or the input ends; answers how many bytes it put at the buffer's start.
+fn read_full<R: Read>(from: &mut R, buffer: &mut [u8]) -> io::Result<usize>
+    ensures fits { IfOk result (λ n. n ≤ length buffer.new) }
+    ensures bytes { IfOk result (λ n. Consumes (R.remaining from.old) (R.remaining from.new) (take n buffer.new)) }
+    ensures end { IfOk result (λ n. n < length buffer.new → IsAtEnd (R.remaining from.new)) }
+{
+    let mut done = 0;
+    while done < buffer.len() {
+        let n = from.read(&mut buffer[done..])?;
+        if n == 0 {
+            return Ok(done);
+        }
+        done += n;
+    }
+    Ok(done)
+}
+
+fn main(rt: HostRuntime) -> io::Result<()> {
     let mut bytes = input();
-    let n = io::read_full(0, &mut bytes);
+    let n = read_full(&mut rt.stdin(), &mut bytes)?;
     let mut out = [0u8; TEXT];
     let end = text(&bytes[..n], &mut out);
-    print::write(&out, end);
+    print::write(&rt, &out, end)
 }
