@@ -410,7 +410,7 @@ pub fn gekunday_clauses(q: &[u8], out: &mut [u64; 3]) -> u32
     ensures number { result ≡ (clauses_reply q.now).number }
     ensures words { out.new ≡ filled 3 (clauses_reply q.now).values }
 {
-    let w = clauses_words(clauses::decide_clauses(q));
-    *out = [w.first, w.second, w.third];
-    w.number
+    let c = clauses_words(clauses::decide_clauses(q));
+    *out = [c.first, c.second, c.third];
+    c.number
 }
