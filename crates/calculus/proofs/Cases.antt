@@ -5,6 +5,7 @@ use mathlib.Core.Path.{◌≡◌, refl}
 use mathlib.Core.Option.{Option, none, some}
 use mathlib.Core.List.{List, map}
 use Prim.Native.Nat.{ℕ}
+use Rattle.calculus.specs.Limits.{VARIED}
 use Rattle.calculus.specs.Syntax.{c}
 use Rattle.calculus.specs.Bytes.{question}
 use Rattle.calculus.specs.Derivation.{derivation}
@@ -43,6 +44,10 @@ starred_right = (refl, refl)
 pub refutations_right : map (λ q. refuting (question q.bytes)) starred ≡ refutations
 unfolding letters_under
 refutations_right = refl
+
+-- "12 MANY LAMPS, more than 16 different lamps occur"
+pub most_vary : VARIED ≡ 16
+most_vary = refl
 
 pub numbers_right : map (λ r. r.replied) numbers ≡ map (λ r. r.printed) numbers
 unfolding letters_under

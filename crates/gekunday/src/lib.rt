@@ -363,12 +363,7 @@ pub fn gekunday_formula(q: &[u8], side: u32, place: usize, out: &mut [u64; 2]) -
 }
 
 // Decides a question, and writes the derivation of a theorem.
-pub fn gekunday_derive(
-    q: &[u8],
-    budget: u64,
-    buffer: &mut [u8],
-    out: &mut [u64; 3],
-) -> u32
+pub fn gekunday_derive(q: &[u8], budget: u64, buffer: &mut [u8], out: &mut [u64; 3]) -> u32
     ensures number { result ≡ (derive q.now budget buffer.old).reply.number }
     ensures words { out.new ≡ filled 3 (derive q.now budget buffer.old).reply.values }
     ensures written { buffer.new ≡ (derive q.now budget buffer.old).buffer }
@@ -415,7 +410,7 @@ pub fn gekunday_clauses(q: &[u8], out: &mut [u64; 3]) -> u32
     ensures number { result ≡ (clauses_reply q.now).number }
     ensures words { out.new ≡ filled 3 (clauses_reply q.now).values }
 {
-    let w = clauses_words(clauses::decide_clauses(q));
-    *out = [w.first, w.second, w.third];
-    w.number
+    let c = clauses_words(clauses::decide_clauses(q));
+    *out = [c.first, c.second, c.third];
+    c.number
 }

@@ -1,8 +1,10 @@
 -- What `join` requires bounds each product and sum.
-use Rattle.std.proofs.Common.{◌+◌, ◌*◌, ◌^◌, ◌≤◌, arith}
+use Rattle.std.proofs.Common.{◌≡◌, refl, sym, ◌∙◌, ◌+◌, ◌*◌, ◌^◌, ◌≤◌, arith}
 use Rattle.calculus.specs.declared.Side.TheVariants.{Left, Right}
 use Rattle.calculus.specs.Limits.{CONNECTIVES}
-use Rattle.calculus.specs.Syntax.{AND, OR, EQUIV}
+use Rattle.calculus.specs.Syntax.{Binary, AND, OR, EQUIV, two}
+use Rattle.calculus.specs.Bytes.{CONNECTIVE, code}
+use Rattle.calculus.proofs.Spelling.{code_injective}
 use Rattle.width.specs.declared.Pair.{Pair}
 use Rattle.width.specs.Walks.{Fit}
 use Rattle.width.proofs.join.Goals as goal
@@ -51,3 +53,12 @@ overflow_mul-result-in_default-4 c = let a = c.args in omega (arith, bounds a.f 
 
 pub overflow_add-result-in_default-2 : goal.overflow_add-result-in_default-2
 overflow_add-result-in_default-2 c = let a = c.args in omega (arith, bounds a.f a.g c.requires.2)
+
+-- the byte tells the connective
+told : (o p : Binary) → code (CONNECTIVE (two o)) ≡ code (CONNECTIVE (two p)) → o ≡ p
+told o p e = cc (code_injective (CONNECTIVE (two o)) (CONNECTIVE (two p)) e)
+
+pub returns-in_default : goal.returns-in_default
+returns-in_default c o e =
+    let k : c.args.b ≡ 6 = omega arith in
+    rw (told o EQUIV (sym e ∙ k)) refl
