@@ -8,11 +8,14 @@ ghost use Rattle.calculus.specs.Derivation.{derivation};
 ghost use Rattle.calculus.specs.Reading.{reading, accepted};
 ghost use Rattle.calculus.specs.Tree.{verdict};
 ghost use Rattle.print.specs.Text.{Printed};
-ghost use Rattle.ask.specs.Output.{INPUT, BUDGET, BUFFER, TEXT, derivation_line, verdict_text, ask_text};
+ghost use Rattle.ask.specs.Output as defined;
+ghost use Rattle.ask.specs.Output.{derivation_line, verdict_text, ask_text};
 
 use calculus::{Kind, Verdict};
 use std::io;
 use std::io::Read;
+
+// The four constants stand in specs/Output.antt, too: the clauses name those, as `defined.INPUT`.
 
 // The bytes read: those of the longest question, and one more.
 const INPUT: usize = question::LONGEST_QUESTION + 1;
@@ -27,9 +30,9 @@ const TEXT: usize = 100 + 3 * BUFFER;
 
 // A theorem's second line: its derivation in hexadecimal, or `no space`.
 fn put_derivation(q: &[u8], out: &mut [u8], at: usize) -> usize
-    requires q_value { (reading q.now ≡ accepted) × ((verdict BUDGET (question q.now)).kind ≡ Kind.Theorem) }
-    requires at_in_bounds { at + 3 * BUFFER + 9 ≤ length out.old }
-    ensures short { result ≤ at + 3 * BUFFER + 9 }
+    requires q_value { (reading q.now ≡ accepted) × ((verdict defined.BUDGET (question q.now)).kind ≡ Kind.Theorem) }
+    requires at_in_bounds { at + 3 * defined.BUFFER + 9 ≤ length out.old }
+    ensures short { result ≤ at + 3 * defined.BUFFER + 9 }
     ensures text { Printed out.old at
         (derivation_line (derivation (question q.now)))
         result out.new }
@@ -47,8 +50,8 @@ fn put_derivation(q: &[u8], out: &mut [u8], at: usize) -> usize
 
 // The text for an accepted question.
 fn put_verdict(q: &[u8], v: Verdict, w: u64, out: &mut [u8]) -> usize
-    requires { (reading q.now ≡ accepted) × (v ≡ verdict BUDGET (question q.now)) × (TEXT ≤ length out.old) }
-    ensures short { result ≤ TEXT }
+    requires { (reading q.now ≡ accepted) × (v ≡ verdict defined.BUDGET (question q.now)) × (defined.TEXT ≤ length out.old) }
+    ensures short { result ≤ defined.TEXT }
     ensures text { Printed out.old 0
         (verdict_text v.kind v.reductions v.closings w (derivation (question q.now)))
         result out.new }
@@ -71,7 +74,7 @@ fn put_verdict(q: &[u8], v: Verdict, w: u64, out: &mut [u8]) -> usize
 
 // The text for a question; answers its length.
 fn text(q: &[u8], out: &mut [u8]) -> usize
-    requires { TEXT ≤ length out.old }
+    requires { defined.TEXT ≤ length out.old }
     ensures long { result ≡ length (ask_text q.now) }
     ensures bytes { out.new ≡ ask_text q.now ++ drop result out.old }
 {
@@ -84,7 +87,7 @@ fn text(q: &[u8], out: &mut [u8]) -> usize
 
 // Zeros for the bytes read. Its `ensures` ties their number to the definition.
 fn input() -> [u8; INPUT]
-    ensures { INPUT ≡ length result }
+    ensures { defined.INPUT ≡ length result }
 {
     [0; INPUT]
 }
