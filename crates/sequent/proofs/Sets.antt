@@ -1,7 +1,7 @@
 -- The set of a side: it holds the side's compounds, and where two do not meet, no compound stands on both sides.
 -- Assumes nothing.
 use mathlib.Core.Path.{◌≡◌, refl, sym, subst, ◌∙◌}
-use mathlib.Core.Bool.{true, false, false≢true}
+use mathlib.Core.Bool.{true, false≢true}
 use mathlib.Core.List.{List, [], ◌∷◌}
 use Prim.Native.Nat.{ℕ, ◌%◌, ◌≤◌}
 use lib.Bits.{bit_and, bit_or}

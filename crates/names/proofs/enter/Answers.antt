@@ -1,4 +1,3 @@
-use Rattle.std.proofs.Common.{arith}
 use native.Mathlib.Nat.{le_refl}
 use lib.Seq.{take-set-le}
 use Rattle.names.proofs.Entering.{entered}

@@ -6,4 +6,4 @@ pub returns-then-items-i-ge-LETTERS : goal.returns-then-items-i-ge-LETTERS
 returns-then-items-i-ge-LETTERS c =
     let a = c.args in
     let i = c.loop-i.i in
-    (omega (arith, c.loop-i.invariant.1, first_here a.items.now i a.n c.loop-i-test.true (omega (arith, c.requires)) c.if-items-i-ge-LETTERS.true), omega arith)
+    (omega (arith, c.loop-i.invariant.1, first_here a.items.now i a.n c.loop-i-test.true (omega (arith, c.requires)) (omega arith)), omega arith)
