@@ -3,7 +3,8 @@
 #![tactic(auto)]
 
 ghost use Rattle.std.specs.Prelude.{◌≡◌, List, [], ◌∷◌, ◌++◌, ℕ, ◌+◌, ◌≤◌, ◌<◌, length, take, get_or};
-ghost use Rattle.calculus.specs.Limits.{LETTERS, CONNECTIVES, ROOM};
+ghost use Rattle.calculus.specs.Limits;
+ghost use Rattle.calculus.specs.Limits.{CONNECTIVES, ROOM};
 ghost use Rattle.calculus.specs.Syntax.{Formula, on_side};
 ghost use Rattle.calculus.specs.Bytes.{question, side_start, start_of};
 ghost use Rattle.calculus.specs.Reading.{accepted, reading};
@@ -44,7 +45,7 @@ fn node(b: u8, f: u8, g: u8) -> u32
 
 fn name(n: usize) -> u8
     requires { n < CONNECTIVES }
-    ensures { result ≡ LETTERS + n }
+    ensures { result ≡ Limits.LETTERS + n }
 {
     LETTERS + n as u8
 }
@@ -69,8 +70,8 @@ fn note(nodes: &mut [u32; 48], w: u32, end: usize, n: usize) -> Named
     requires { (n < CONNECTIVES)
         × (length nodes.old ≡ CONNECTIVES)
         × Nodes nodes.old n
-        × (first_of w < LETTERS + n)
-        × (second_of w < LETTERS + n) }
+        × (first_of w < Limits.LETTERS + n)
+        × (second_of w < Limits.LETTERS + n) }
     ensures { Noted w end n nodes.old nodes.new result }
 {
     let i = place_of(nodes, n, w);

@@ -5,7 +5,7 @@ use mathlib.Core.Bool.{Bool, true, ◌||◌, or_assoc, or_comm, or-false}
 use mathlib.Core.List.{List}
 use Prim.Native.Nat.{ℕ, ◌+◌, ◌-◌, ◌^◌, ◌≤◌, ◌<◌}
 use native.Mathlib.Omega.{arith}
-use lib.Bits.{bit_or, or_comm as bit-or_comm}
+use lib.Bits.{bit_or, or_comm as bit_or_comm}
 use lib.Dec.{eqb}
 use lib.ListN.{length, take, drop, get_or}
 use borrow.Author.Tests.{eq-eqb}
@@ -14,7 +14,6 @@ use Rattle.calculus.specs.Limits.{LETTERS}
 use Rattle.calculus.specs.Syntax.{Formula}
 use Rattle.calculus.specs.Bytes.{formulas, Lettered}
 use Rattle.calculus.specs.Truth.{bit}
-use Rattle.calculus.specs.Tree.{light}
 use Rattle.calculus.specs.States.{occurs}
 use Rattle.calculus.proofs.Folds.{or_left, or_right}
 use Rattle.calculus.proofs.Letters.{occurs_all}
@@ -24,7 +23,7 @@ use Rattle.question.proofs.Walks.{Passed, passed_letter}
 
 -- one letter more
 pub bit_marked : (set k m : ℕ) → bit m (bit_or set (2 ^ k)) ≡ (bit m set || eqb m k)
-bit_marked set k m = ap (bit m) (bit-or_comm set (2 ^ k) ∙ light_or k set) ∙ bit_light m k set ∙ or_comm (eqb m k) (bit m set)
+bit_marked set k m = ap (bit m) (bit_or_comm set (2 ^ k) ∙ light_or k set) ∙ bit_light m k set ∙ or_comm (eqb m k) (bit m set)
 
 -- what the formulas ahead add to the set so far is what all add to the set at first
 pub record Marking (q : List ℕ) (all : List Formula) (first set i d : ℕ) : Type 0 where
@@ -55,7 +54,7 @@ module _ (q : List ℕ) (all : List Formula) (first set i d : ℕ) (a : Marking 
   pub record Marked : Type 0 where
     pub step : Passed q i d
     pub letter : get_or q (i + 1) 0 < LETTERS
-    pub next : (r : ℕ) → r ≡ light (get_or q (i + 1) 0) set → Marking q all first r (i + 2) (d - 1)
+    pub next : (r : ℕ) → ((k : ℕ) → bit k r ≡ (bit k set || eqb k (get_or q (i + 1) 0))) → Marking q all first r (i + 2) (d - 1)
 
   pub marking_next : 1 ≤ d → get_or q i 0 ≡ 1 → Marked
   marking_next h e =
@@ -68,6 +67,6 @@ module _ (q : List ℕ) (all : List Formula) (first set i d : ℕ) (a : Marking 
         next = λ r f. record {
           due = w.due;
           below = λ k l. a.below k (w.letters k ∙ or_right (eqb k m) (ahead k) l);
-          same = λ k. ap (λ (x : Bool). x || ahead k) (ap (bit k) f ∙ bit_light k m set ∙ or_comm (eqb k m) (bit k set)) ∙ or_assoc (bit k set) (eqb k m) (ahead k) ∙ ap (λ (x : Bool). bit k set || x) (sym (w.letters k)) ∙ a.same k;
+          same = λ k. ap (λ (x : Bool). x || ahead k) (f k) ∙ or_assoc (bit k set) (eqb k m) (ahead k) ∙ ap (λ (x : Bool). bit k set || x) (sym (w.letters k)) ∙ a.same k;
         };
       }

@@ -3,7 +3,8 @@
 
 ghost use Rattle.std.specs.Prelude.{◌≡◌, ℕ, ◌+◌, ◌-◌, ◌^◌, ◌≤◌, ◌<◌, List, false, ◌||◌, eqb, length, take, drop, get_or};
 ghost use Rattle.calculus.specs.Fold.{Each};
-ghost use Rattle.calculus.specs.Limits.{LONGEST, FORMULAS, LETTERS};
+ghost use Rattle.calculus.specs.Limits;
+ghost use Rattle.calculus.specs.Limits.{LONGEST, FORMULAS};
 ghost use Rattle.calculus.specs.Syntax.{on_side};
 ghost use Rattle.calculus.specs.Bytes.{SIDE, LETTER, code, formulas, bytes_all, question, side_start, Lettered};
 ghost use Rattle.calculus.specs.Reading.{accepted, reading};
@@ -321,7 +322,7 @@ pub fn end_of(q: &[u8], at: usize) -> usize
 
 // A set of letters, letter k as bit k, with one more.
 pub fn marked(set: u64, k: u8) -> u64
-    requires { k < LETTERS }
+    requires { k < Limits.LETTERS }
     ensures lit { result ≡ light k set }
     ensures bits { (m : ℕ) → bit m result ≡ (bit m set || eqb m k) }
 {

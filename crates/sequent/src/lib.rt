@@ -3,7 +3,7 @@
 
 ghost use Rattle.std.specs.Prelude.{◌≡◌, ◌++◌, ◌+◌, ◌-◌, ◌%◌, ◌≤◌, ◌<◌, length};
 ghost use Rattle.std.proofs.Math.Seq.{slice};
-ghost use Rattle.calculus.specs.Limits.{ROOM, LETTERS};
+ghost use Rattle.calculus.specs.Limits;
 ghost use Rattle.calculus.specs.Syntax.{Connective, size};
 ghost use Rattle.calculus.specs.Bytes.{CONNECTIVE, code};
 ghost use Rattle.calculus.specs.Table.{premise};
@@ -160,7 +160,7 @@ impl Reduction {
 impl Pass {
     // The old places up to one.
     fn copy(self, old: &[u8; 80], new: &mut [u8; 80], end: usize) -> Pass
-        requires { (self.from ≤ end) × (end ≤ ROOM) × (length old.now ≡ ROOM) × Fits self (end - self.from) new.old }
+        requires { (self.from ≤ end) × (end ≤ Limits.ROOM) × (length old.now ≡ Limits.ROOM) × Fits self (end - self.from) new.old }
         ensures { Stored self result end (slice self.from end old.now) new.old new.new }
     {
         let mut i = self.from;
@@ -207,7 +207,7 @@ impl Pass {
 
     // The formula that makes way.
     fn skip(self) -> Pass
-        requires { self.from < ROOM }
+        requires { self.from < Limits.ROOM }
         ensures { (result.from ≡ self.from + 1) × (result.to ≡ self.to) × (result.stores ≡ self.stores) }
     {
         Pass {
@@ -290,8 +290,8 @@ impl Running {
 
     // Where the name at a place of a side stands in the list.
     pub fn slot(self, side: Side, at: usize) -> usize
-        requires { (at < count_of side self) × (self.lefts + self.rights ≤ ROOM) }
-        ensures { (result ≡ slot_of side at self) × (result < ROOM) }
+        requires { (at < count_of side self) × (self.lefts + self.rights ≤ Limits.ROOM) }
+        ensures { (result ≡ slot_of side at self) × (result < Limits.ROOM) }
     {
         match side {
             Side::Left => at,
@@ -301,7 +301,7 @@ impl Running {
 
     // Where a side's names end in the list.
     fn end(self, side: Side) -> usize
-        requires { self.lefts + self.rights ≤ ROOM }
+        requires { self.lefts + self.rights ≤ Limits.ROOM }
         ensures { result ≡ end_of side self }
     {
         match side {
@@ -333,9 +333,9 @@ impl Running {
         g: u8,
     ) -> Pass
         requires { (at < count_of side self)
-            × (self.lefts + self.rights ≤ ROOM)
+            × (self.lefts + self.rights ≤ Limits.ROOM)
             × (a.from ≤ slot_of side at self)
-            × (length old.now ≡ ROOM)
+            × (length old.now ≡ Limits.ROOM)
             × Fits a (slot_of side at self - a.from + length (parts_on side p f g)) new.old }
         ensures { Stored
             a
@@ -361,8 +361,8 @@ impl Running {
         g: u8,
     ) -> Pass
         requires { (a.from ≤ end_of side self)
-            × (self.lefts + self.rights ≤ ROOM)
-            × (length old.now ≡ ROOM)
+            × (self.lefts + self.rights ≤ Limits.ROOM)
+            × (length old.now ≡ Limits.ROOM)
             × Fits a (end_of side self - a.from + length (parts_on side p f g)) new.old }
         ensures { Stored
             a
@@ -404,10 +404,10 @@ impl Running {
         g: u8,
     ) -> Built
         requires { (at < count_of side self)
-            × (self.lefts + self.rights ≤ ROOM)
-            × (length old.now ≡ ROOM)
-            × (length new.old ≡ ROOM)
-            × (size (premise side at (view self old.now) (placed p f g)) ≤ ROOM) }
+            × (self.lefts + self.rights ≤ Limits.ROOM)
+            × (length old.now ≡ Limits.ROOM)
+            × (length new.old ≡ Limits.ROOM)
+            × (size (premise side at (view self old.now) (placed p f g)) ≤ Limits.ROOM) }
         ensures { Builds side at p f g self old.now new.old new.new result }
     {
         let n = self.lefts + self.rights;
@@ -445,12 +445,12 @@ impl Running {
     // A premise of a reduction: the names of its two parts go where p says.
     pub fn premise(self, old: &[u8; 80], new: &mut [u8; 80], r: Reduction, p: Placing) -> Built
         requires { (r.at < count_of r.side self)
-            × (self.lefts + self.rights ≤ ROOM)
-            × (length old.now ≡ ROOM)
-            × (length new.old ≡ ROOM)
+            × (self.lefts + self.rights ≤ Limits.ROOM)
+            × (length old.now ≡ Limits.ROOM)
+            × (length new.old ≡ Limits.ROOM)
             × (size
             (premise r.side r.at (view self old.now) (placed p (first_of r.node) (second_of r.node)))
-            ≤ ROOM) }
+            ≤ Limits.ROOM) }
         ensures { Builds
             r.side
             r.at
@@ -472,7 +472,7 @@ impl Running {
 
 // The first compound from a place on, or n.
 fn first_from(items: &[u8; 80], from: usize, n: usize) -> usize
-    requires { (from ≤ n) × (n ≤ ROOM) × (length items.now ≡ ROOM) }
+    requires { (from ≤ n) × (n ≤ Limits.ROOM) × (length items.now ≡ Limits.ROOM) }
     ensures { (result ≡ from + first_in (slice from n items.now)) × (result ≤ n) }
 {
     let mut i = from;
@@ -488,8 +488,8 @@ fn first_from(items: &[u8; 80], from: usize, n: usize) -> usize
 impl Running {
     // The first formula with a connective, the left side before the right, where there is none before a place of the list.
     pub fn first_compound(self, items: &[u8; 80], from: usize) -> Place
-        requires { (self.lefts + self.rights ≤ ROOM)
-            × (length items.now ≡ ROOM)
+        requires { (self.lefts + self.rights ≤ Limits.ROOM)
+            × (length items.now ≡ Limits.ROOM)
             × Clear from items.now self }
         ensures { Found (view self items.now) result }
     {
@@ -508,7 +508,7 @@ impl Running {
     pub fn reduction(self, nodes: &[u32; 48], items: &[u8; 80], side: Side, at: usize) -> Reduction
         requires { Good nodes.now items.now self
             × (at < count_of side self)
-            × (LETTERS ≤ name_at side at (view self items.now)) }
+            × (Limits.LETTERS ≤ name_at side at (view self items.now)) }
         ensures { result ≡ reduction_at nodes.now side at (view self items.now) }
     {
         let k = self.slot(side, at);
@@ -524,7 +524,7 @@ impl Running {
 
 // The first place of a name from one place on, or n.
 fn place_of(items: &[u8; 80], from: usize, n: usize, name: u8) -> usize
-    requires { (from ≤ n) × (n ≤ ROOM) × (length items.now ≡ ROOM) }
+    requires { (from ≤ n) × (n ≤ Limits.ROOM) × (length items.now ≡ Limits.ROOM) }
     ensures { Stands items.now from n name result }
 {
     let mut i = from;
@@ -540,7 +540,7 @@ fn place_of(items: &[u8; 80], from: usize, n: usize, name: u8) -> usize
 impl Running {
     // The lowest left place of a compound that stands on the right too, with its lowest right place.
     fn search(self, items: &[u8; 80]) -> Pair
-        requires { (self.lefts + self.rights ≤ ROOM) × (length items.now ≡ ROOM) }
+        requires { (self.lefts + self.rights ≤ Limits.ROOM) × (length items.now ≡ Limits.ROOM) }
         ensures { Paired (view self items.now) result }
     {
         let n = self.lefts + self.rights;
@@ -560,7 +560,7 @@ impl Running {
 
     // The same: where the sets do not meet, no compound stands on both sides.
     pub fn twins(self, items: &[u8; 80]) -> Pair
-        requires { (self.lefts + self.rights ≤ ROOM) × (length items.now ≡ ROOM) × Covered self items.now }
+        requires { (self.lefts + self.rights ≤ Limits.ROOM) × (length items.now ≡ Limits.ROOM) × Covered self items.now }
         ensures { Paired (view self items.now) result }
     {
         if self.leftset & self.rightset == 0 {

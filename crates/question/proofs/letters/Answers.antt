@@ -22,7 +22,7 @@ loop-w-preserved c =
     let l = c.loop-w in
     let r = c.to_letter-l in
     let m = marking_reached a.q.now all a.set l.all l.w.at l.w.due l.invariant r.result.at r.result.due r.ensures.0 in
-    (marking_next a.q.now all a.set l.all r.result.at r.result.due m r.ensures.0.some r.ensures.1).next c.marked-all.result c.marked-all.ensures.lit
+    (marking_next a.q.now all a.set l.all r.result.at r.result.due m r.ensures.0.some r.ensures.1).next c.marked-all.result c.marked-all.ensures.bits
 
 pub returns : goal.returns
 returns c =
