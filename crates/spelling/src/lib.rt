@@ -47,7 +47,7 @@ impl<'a> Model for Arranged<'a> {
 }
 
 impl<'a> Arranged<'a> {
-    fn none() -> Self
+    fn new() -> Self
         ensures { result ≡ [] }
     {
         Arranged {
@@ -141,8 +141,8 @@ pub fn spell(q: &[u8], out: &mut [u8]) -> Result<usize, NotSpelled>
     ensures one { IfOk result (λ n. Spells q.now (take n out.new)) }
 {
     let q = Question::read(q)?;
-    let mut lefts = Arranged::none();
-    let mut rights = Arranged::none();
+    let mut lefts = Arranged::new();
+    let mut rights = Arranged::new();
     let start = lefts.enter_side(q, Side::Left, 2) + 2;
     rights.enter_side(q, Side::Right, start);
     let lefts = lefts.formulas();
