@@ -12,13 +12,12 @@ use Rattle.calculus.specs.Fold.{fold, ANY, Each}
 use Rattle.calculus.specs.Limits.{FORMULAS, LIMITS, RIGHT_FORMULA, NOT_CLAUSE, MANY_POSITIVE}
 use Rattle.calculus.specs.Syntax.{Formula, Sequent}
 use Rattle.calculus.specs.Bytes.{formulas, question, side_start, Lettered}
-use Rattle.calculus.specs.Reading.{accepted, refused, reading}
+use Rattle.calculus.specs.Reading.{accepted, reading}
 use Rattle.calculus.specs.Clauses.{Clause, Profile, outside, clauses, profile_from, profile_by, profile, Rest, rest, fails, Decision, theorem, refuted, judge, decided}
-use Rattle.calculus.specs.Reply.{Reply, decision_reply, profile_reply, clauses_reply}
+use Rattle.calculus.specs.Reply.{Reply, decision_reply, profile_reply}
 use Rattle.calculus.proofs.Bounds.{false_refutes}
 use Rattle.calculus.proofs.Readings.{accepted_question}
 use Rattle.calculus.proofs.Clauses.{decided_correct, decided_exactly, decided_agrees, rounds_letters}
-use Rattle.question.specs.declared.Refusal.{Refusal}
 use Rattle.question.specs.Answers.{number_of, place_of}
 use Rattle.question.proofs.Questions.{side_read}
 use Rattle.clauses.specs.declared.ClauseVerdict.{ClauseVerdict}

@@ -15,7 +15,6 @@ use Rattle.calculus.specs.Fold.{Each, choose}
 use Rattle.calculus.specs.Limits.{NOT_CLAUSE, MANY_POSITIVE}
 use Rattle.calculus.specs.Syntax.{Formula}
 use Rattle.calculus.specs.Bytes.{encode, formulas, bytes, bytes_all, Lettered}
-use Rattle.calculus.specs.Tree.{state}
 use Rattle.calculus.specs.Clauses.{Clause, both, clause_of, several, Profile, outside, clauses, prepend, admit, profile_from, light_all, Decision, theorem, refuted, decided}
 use Rattle.calculus.specs.Reply.{decision_reply, profile_reply}
 use Rattle.calculus.proofs.Rounds.{light_all_state}
@@ -27,13 +26,10 @@ use Rattle.clauses.specs.declared.NotClauses.{NotClauses}
 use Rattle.clauses.specs.declared.NotClauses.TheVariants.{NotClause, ManyPositive}
 use Rattle.clauses.specs.declared.ClauseVerdict.{ClauseVerdict}
 use Rattle.clauses.specs.Answers.{reply_of, answer_of}
-use Rattle.clauses.specs.Walks.{clause_all, with_clause, total, Within}
+use Rattle.clauses.specs.Walks.{start_at, clause_all, with_clause, total, Within}
 use Rattle.clauses.specs.Tables.{masks_of, clause_by, clause_at}
 
 -- ---- one formula
-
-abbrev pub start_at : ℕ → Gathered
-start_at at = record { masks = record { negative = 0; positive = 0 }; count = 0; at = at; due = 1 }
 
 first_taken : (q : List ℕ) (at : ℕ) → Well q at → take 1 (formulas (drop at q)) ≡ formula_at q at ∷ []
 first_taken q at h = (next_due q at 1 (omega arith) h).split
@@ -203,7 +199,7 @@ module _ (q : List ℕ) (at n : ℕ) (ms : List Masks) (e i : ℕ) (s : Storing 
       go w (is_none k) f = absurd (cc)
       go w (is_many c k g) f = absurd (cc)
       go w (is_single c k g) f =
-          let p : (m, d) ≡ (masks_of c, end_of q e) = cc in
+          let p : ◌≡◌ {A = Masks × ℕ} (m, d) (masks_of c, end_of q e) = cc in
           let j : m ≡ masks_of c = ap (λ (x : Masks × ℕ). x.0) p in
           let l : d ≡ end_of q e = ap (λ (x : Masks × ℕ). x.1) p in
           let t : n - (i + 1) ≡ n - i - 1 = omega arith in

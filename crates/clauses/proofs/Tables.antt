@@ -15,7 +15,7 @@ use Rattle.std.specs.List.{HoldsAt, AllWithin}
 use Rattle.std.specs.Prelude.{MatchBool}
 use Rattle.calculus.specs.Fold.{fold, ANY, choose}
 use Rattle.calculus.specs.Tree.{state}
-use Rattle.calculus.specs.Clauses.{Clause, met, fails, fired, light_all, round, Rest, further, rounds_by, rest}
+use Rattle.calculus.specs.Clauses.{Clause, met, fired, light_all, round, Rest, further, rounds_by, rest}
 use Rattle.calculus.proofs.Rounds.{light_all_append}
 use Rattle.clauses.specs.declared.Masks.{Masks}
 use Rattle.clauses.specs.declared.Settled.{Settled}

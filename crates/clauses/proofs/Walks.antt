@@ -19,7 +19,6 @@ use Rattle.calculus.proofs.Rounds.{light_all_append}
 use Rattle.question.specs.Positions.{Well, formula_at, end_of}
 use Rattle.question.proofs.Walks.{well_inside, walked_at}
 use Rattle.question.proofs.Parts.{LetterAt, NotAt, TwoAt, At, a_letter, a_compound, at_position, letter_at, first_at, not_at, two_at, NextDue, next_due}
-use Rattle.clauses.specs.declared.Masks.{Masks}
 use Rattle.clauses.specs.declared.Gathered.{Gathered}
 use Rattle.clauses.specs.Walks.{clause_all, with_clause, ahead, total, Within, Onward}
 

@@ -8,6 +8,10 @@ use Rattle.calculus.specs.Bytes.{formulas, bytes_all, Lettered}
 use Rattle.calculus.specs.Clauses.{Clause, both, clause_of, light_all}
 use Rattle.clauses.specs.declared.Gathered.{Gathered}
 
+-- nothing yet, where one formula is due
+abbrev pub start_at : ℕ → Gathered
+start_at at = record { masks = record { negative = 0; positive = 0 }; count = 0; at = at; due = 1 }
+
 -- the clause of several formulas joined by OR
 abbrev pub clause_all : List Formula → Math.Option Clause
 clause_all [] = some (record { negative = []; positive = [] })

@@ -5,35 +5,27 @@
 ghost use Rattle.std.specs.Prelude.{◌≡◌, List, [], ◌∷◌, map, ◌≤◌, length, take, drop};
 ghost use Rattle.calculus.specs.Fold.{fold, ANY, Each};
 ghost use Rattle.calculus.specs.Limits.{FORMULAS};
-ghost use Rattle.calculus.specs.Syntax.{on_side};
 ghost use Rattle.calculus.specs.Bytes.{formulas, question, Lettered};
-ghost use Rattle.calculus.specs.Reading.{accepted, reading};
 ghost use Rattle.calculus.specs.Tree.{state};
 ghost use Rattle.calculus.specs.Clauses.{Clause, profile_from, profile, met, fired, round, rest, fails, decided};
 ghost use Rattle.calculus.specs.Reply.{profile_reply, clauses_reply};
 ghost use Rattle.question.specs.Positions.{Well, formula_at};
-ghost use Rattle.clauses.specs.Walks.{total, total_of, Within, Onward};
+ghost use Rattle.clauses.specs.Walks.{start_at, total, total_of, Within, Onward};
 ghost use Rattle.clauses.specs.Tables.{masks_of, settled_of, clause_at};
 ghost use Rattle.clauses.specs.Answers.{reply_of, answer_of, Settles};
 ghost use Rattle.clauses.specs.declared.NotClauses.TheVariants.{Refused};
 
 use calculus::Side;
-use question::{ALL_FORMULAS, Reading, Refusal};
+use question::{ALL_FORMULAS, Question, Refusal};
 
 // A clause: its letters under NOT, and its letters without NOT.
-#[derive(Clone, Copy)]
+#[derive(Clone, Copy, Default)]
 pub struct Masks {
     pub negative: u64,
     pub positive: u64,
 }
 
 impl Masks {
-    // The clause without letters.
-    pub const EMPTY: Masks = Masks {
-        negative: 0,
-        positive: 0,
-    };
-
     // Its letters under NOT are all lit.
     fn is_met(self, lit: u64) -> bool
         ensures { (c : Clause) → self ≡ masks_of c → result ≡ met lit c }
@@ -67,6 +59,18 @@ pub struct Gathered {
 }
 
 impl Gathered {
+    // Nothing yet, where one formula is due.
+    fn start(at: usize) -> Gathered
+        ensures { result ≡ start_at at }
+    {
+        Gathered {
+            masks: Masks::default(),
+            count: 0,
+            at,
+            due: 1,
+        }
+    }
+
     // One command with its operands: a letter, NOT of a letter, or OR, whose two parts are due in its place. A clause has
     // no other.
     fn step(self, q: &[u8]) -> Option<Gathered>
@@ -137,13 +141,7 @@ fn clause_at(q: &[u8], at: usize) -> Result<(Masks, usize), NotClauses>
     requires { Well q.now at × Lettered (formula_at q.now at) }
     ensures { result ≡ clause_at q.now at }
 {
-    let start = Gathered {
-        masks: Masks::EMPTY,
-        count: 0,
-        at: at,
-        due: 1,
-    };
-    let g = start.all(q).ok_or(NotClauses::NotClause(at))?;
+    let g = Gathered::start(at).all(q).ok_or(NotClauses::NotClause(at))?;
     if 1 < g.count {
         return Err(NotClauses::ManyPositive(at));
     }
@@ -214,7 +212,7 @@ fn decide_formulas(q: &[u8], at: usize, n: usize) -> Result<ClauseVerdict, NotCl
         × Each Lettered (take n (formulas (drop at q.now))) }
     ensures { reply_of result ≡ profile_reply (profile_from at (take n (formulas (drop at q.now)))) }
 {
-    let mut clauses = [Masks::EMPTY; ALL_FORMULAS];
+    let mut clauses = [Masks::default(); ALL_FORMULAS];
     let mut end = at;
     for clause in clauses[..n].iter_mut() {
         (*clause, end) = clause_at(q, end)?;
@@ -224,17 +222,16 @@ fn decide_formulas(q: &[u8], at: usize, n: usize) -> Result<ClauseVerdict, NotCl
 
 // An accepted question. Every formula ends with a letter's command and operand, so the last byte but one tells if the
 // right side is empty.
-fn decide_accepted(q: &[u8]) -> Result<ClauseVerdict, NotClauses>
-    requires { reading q.now ≡ accepted }
-    ensures { reply_of result ≡ profile_reply (profile (question q.now)) }
+fn decide_accepted(q: Question<'_>) -> Result<ClauseVerdict, NotClauses>
+    ensures { reply_of result ≡ profile_reply (profile (question q.entry.bytes.now)) }
 {
-    let tail = q.len() - 2;
-    if q[tail] != question::head_of(Side::Right) {
-        return Err(NotClauses::RightFormula(question::side_start(q, Side::Right)));
+    let tail = q.bytes.len() - 2;
+    if q.bytes[tail] != question::head_of(Side::Right) {
+        return Err(NotClauses::RightFormula(q.start(Side::Right)));
     }
-    let start = question::side_start(q, Side::Left);
-    let n = question::side_count(q, Side::Left, start);
-    decide_formulas(q, start, n)
+    let start = q.start(Side::Left);
+    let n = q.count(Side::Left, start);
+    decide_formulas(q.bytes, start, n)
 }
 
 // Decides a question of the profile by unit clauses alone.
@@ -242,9 +239,5 @@ pub fn decide_clauses(q: &[u8]) -> Result<ClauseVerdict, NotClauses>
     ensures reply { reply_of result ≡ clauses_reply q.now }
     ensures settles { Settles q.now result }
 {
-    let reading = question::read(q);
-    match reading {
-        Reading::Refused(r) => Err(NotClauses::Refused(r)),
-        Reading::Accepted => decide_accepted(q),
-    }
+    decide_accepted(Question::read(q)?)
 }

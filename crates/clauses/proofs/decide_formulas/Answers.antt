@@ -16,7 +16,7 @@ returns-in_err-clause c =
     let l = c.loop-clause in
     let w = c.in_err-clause in
     let h : profile_reply (profile_at a.q.now a.at a.n) ≡ reply_of (Err w.field-0.0) =
-        storing_stop a.q.now a.at a.n l.clause-items l.end l.clause-index l.invariant (search rules) w.field-0.0 w.ensures in
+    storing_stop a.q.now a.at a.n l.clause-items l.end l.clause-index l.invariant (search rules) w.field-0.0 w.ensures in
     search rules
 
 pub loop-clause-preserved : goal.loop-clause-preserved
