@@ -1,45 +1,35 @@
 -- The answers of an accepted question, and what is promised of them.
 -- Assumes nothing.
 use Rattle.std.specs.Prelude.{Result, Ok, Err}
-use mathlib.Core.Path.{◌≡◌, refl, sym, ap, ap₂, ◌∙◌}
+use mathlib.Core.Path.{◌≡◌, refl, sym, ap, ap₂}
 use mathlib.Core.Bool.{Bool, true, false}
 use mathlib.Core.List.{List, [], ◌∷◌}
-use Prim.Native.Nat.{ℕ, ◌≤◌, ◌<◌}
+use Prim.Native.Nat.{ℕ, ◌<◌}
 use native.Mathlib.Omega.{arith}
-use lib.ListN.{length, take, drop, get_or}
-use Rattle.calculus.specs.declared.Side.TheVariants.{Left, Right}
-use Rattle.calculus.specs.Fold.{fold, ANY, Each}
-use Rattle.calculus.specs.Limits.{FORMULAS, LIMITS, RIGHT_FORMULA, NOT_CLAUSE, MANY_POSITIVE}
+use lib.ListN.{length, get_or}
+use Rattle.calculus.specs.declared.Side.TheVariants.{Right}
+use Rattle.calculus.specs.Fold.{fold, ANY}
+use Rattle.calculus.specs.Limits.{LIMITS, RIGHT_FORMULA, NOT_CLAUSE, MANY_POSITIVE}
 use Rattle.calculus.specs.Syntax.{Formula, Sequent}
-use Rattle.calculus.specs.Bytes.{formulas, question, side_start, Lettered}
+use Rattle.calculus.specs.Bytes.{question, side_start}
 use Rattle.calculus.specs.Reading.{accepted, reading}
-use Rattle.calculus.specs.Clauses.{Clause, Profile, outside, clauses, profile_from, profile_by, profile, Rest, rest, fails, Decision, theorem, refuted, judge, decided}
+use Rattle.calculus.specs.Clauses.{Clause, Profile, outside, clauses, profile_by, profile, Rest, rest, fails, Decision, theorem, refuted, judge, decided}
 use Rattle.calculus.specs.Reply.{Reply, decision_reply, profile_reply}
 use Rattle.calculus.proofs.Bounds.{false_refutes}
 use Rattle.calculus.proofs.Readings.{accepted_question}
 use Rattle.calculus.proofs.Clauses.{decided_correct, decided_exactly, decided_agrees, rounds_letters}
 use Rattle.question.specs.Answers.{number_of, place_of}
-use Rattle.question.proofs.Questions.{side_read}
 use Rattle.clauses.specs.declared.ClauseVerdict.{ClauseVerdict}
 use Rattle.clauses.specs.declared.ClauseVerdict.TheVariants.{Theorem, Refuted}
 use Rattle.clauses.specs.declared.NotClauses.{NotClauses}
 use Rattle.clauses.specs.declared.NotClauses.TheVariants.{Refused, RightFormula, NotClause, ManyPositive}
 use Rattle.clauses.specs.Answers.{reply_of, answer_of, Holds, Settles}
-use Rattle.clauses.proofs.Profiles.{profile_at}
+use Rattle.clauses.proofs.Profiles.{left_of}
 
--- ---- the left side
+-- ---- a side
 
-module _ (q : List ℕ) (a : reading q ≡ accepted) (at n : ℕ) (e : at ≡ side_start Left (question q)) (f : n ≡ length (question q).on_left) where
-  pub left_fit : (n ≤ FORMULAS) × (n ≤ length (formulas (drop at q))) × Each Lettered (take n (formulas (drop at q)))
-  left_fit =
-      let r = side_read q a Left at n e f in
-      (omega (arith, f, (accepted_question q a).0.lefts), r.enough, r.lettered)
-
-  pub left_profile : (question q).on_right ≡ [] → profile_at q at n ≡ profile (question q)
-  left_profile h =
-      ap₂ (λ (p : ℕ) (xs : List Formula). profile_from p xs) e (side_read q a Left at n e f).all ∙ ap (λ (ys : List Formula). profile_by ys (question q)) (sym h)
-
--- ---- the right side
+pub left_profile : (S : Sequent) → S.on_right ≡ [] → left_of S ≡ profile S
+left_profile S h = ap (λ (ys : List Formula). profile_by ys S) (sym h)
 
 pub right_formula : (S : Sequent) (at n : ℕ) → at ≡ side_start Right S → n ≡ length S.on_right → 0 < n
     → record { number = RIGHT_FORMULA; values = at ∷ [] } ≡ profile_reply (profile S)

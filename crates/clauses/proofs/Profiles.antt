@@ -12,13 +12,17 @@ use lib.ListN.{length, take, drop, set, length-set}
 use lib.Seq.{take-suc-set, take_all, take-append_seam}
 use Rattle.std.specs.Prelude.{None, Some, Result, Ok, Err}
 use Rattle.calculus.specs.Fold.{Each, choose}
-use Rattle.calculus.specs.Limits.{NOT_CLAUSE, MANY_POSITIVE}
-use Rattle.calculus.specs.Syntax.{Formula}
-use Rattle.calculus.specs.Bytes.{encode, formulas, bytes, bytes_all, Lettered}
+use Rattle.calculus.specs.declared.Side.TheVariants.{Left}
+use Rattle.calculus.specs.Limits.{FORMULAS, NOT_CLAUSE, MANY_POSITIVE}
+use Rattle.calculus.specs.Syntax.{Formula, Sequent}
+use Rattle.calculus.specs.Bytes.{question, side_start, encode, formulas, bytes, bytes_all, Lettered}
+use Rattle.calculus.specs.Reading.{accepted, reading}
 use Rattle.calculus.specs.Clauses.{Clause, both, clause_of, several, Profile, outside, clauses, prepend, admit, profile_from, light_all, Decision, theorem, refuted, decided}
 use Rattle.calculus.specs.Reply.{decision_reply, profile_reply}
 use Rattle.calculus.proofs.Rounds.{light_all_state}
 use Rattle.question.specs.Positions.{Well, formula_at, end_of}
+use Rattle.calculus.proofs.Readings.{accepted_question}
+use Rattle.question.proofs.Questions.{side_read}
 use Rattle.question.proofs.Parts.{NextDue, next_due}
 use Rattle.clauses.specs.declared.Masks.{Masks}
 use Rattle.clauses.specs.declared.Gathered.{Gathered}
@@ -27,7 +31,7 @@ use Rattle.clauses.specs.declared.NotClauses.TheVariants.{NotClause, ManyPositiv
 use Rattle.clauses.specs.declared.ClauseVerdict.{ClauseVerdict}
 use Rattle.clauses.specs.Answers.{reply_of, answer_of}
 use Rattle.clauses.specs.Walks.{start_at, clause_all, with_clause, total, Within}
-use Rattle.clauses.specs.Tables.{masks_of, clause_by, clause_at}
+use Rattle.clauses.specs.Masks.{masks_of, clause_by, clause_at}
 
 -- ---- one formula
 
@@ -132,42 +136,46 @@ prepends_all : (cs : List Clause) → prepends cs (clauses []) ≡ clauses cs
 prepends_all [] = refl
 prepends_all (c ∷ cs) = ap (prepend c) (prepends_all cs)
 
--- that of n formulas from a position on
-abbrev pub profile_at : List ℕ → ℕ → ℕ → Profile
-profile_at q at n = profile_from at (take n (formulas (drop at q)))
-
 -- i of n formulas are stored; these clauses and the formulas from e on come to the whole profile
-pub record Storing (q : List ℕ) (at n : ℕ) (ms : List Masks) (e i : ℕ) : Type 0 where
+pub record Storing (q : List ℕ) (all : Profile) (n : ℕ) (ms : List Masks) (e i : ℕ) : Type 0 where
   pub upto : i ≤ n
   pub room : length ms ≡ n
   pub done : List Clause
   pub stored : take i ms ≡ map masks_of done
   pub enough : n - i ≤ length (formulas (drop e q))
   pub lettered : Each Lettered (take (n - i) (formulas (drop e q)))
-  pub same : prepends done (profile_from e (take (n - i) (formulas (drop e q)))) ≡ profile_at q at n
+  pub same : prepends done (profile_from e (take (n - i) (formulas (drop e q)))) ≡ all
 
-pub storing_first : (q : List ℕ) (at n : ℕ) (ms : List Masks) → length ms ≡ n → n ≤ length (formulas (drop at q)) → Each Lettered (take n (formulas (drop at q)))
-    → Storing q at n ms at 0
-storing_first q at n ms z k l =
-    let e : n - 0 ≡ n = omega arith in
+-- the profile of a left side
+abbrev pub left_of : Sequent → Profile
+left_of S = profile_from (side_start Left S) S.on_left
+
+pub left_few : (q : List ℕ) → reading q ≡ accepted → (n : ℕ) → n ≡ length (question q).on_left → n ≤ FORMULAS
+left_few q a n f = omega (arith, f, (accepted_question q a).0.lefts)
+
+pub storing_first : (q : List ℕ) → reading q ≡ accepted → (at n : ℕ) → at ≡ side_start Left (question q) → n ≡ length (question q).on_left → (ms : List Masks) → length ms ≡ n
+    → Storing q (left_of (question q)) n ms at 0
+storing_first q a at n e f ms z =
+    let r = side_read q a Left at n e f in
+    let d : n - 0 ≡ n = omega arith in
     record {
       upto = omega arith;
       room = z;
       done = [];
       stored = refl;
-      enough = omega arith;
-      lettered = rw e l;
-      same = rw e;
+      enough = omega (arith, r.enough);
+      lettered = rw d r.lettered;
+      same = rw d (ap₂ (λ (p : ℕ) (xs : List Formula). profile_from p xs) e r.all);
     }
 
-module _ (q : List ℕ) (at n : ℕ) (ms : List Masks) (e i : ℕ) (s : Storing q at n ms e i) (h : i < n) where
+module _ {q : List ℕ} {all : Profile} {n : ℕ} {ms : List Masks} {e i : ℕ} (s : Storing q all n ms e i) (h : i < n) where
   now : NextDue q e (n - i)
   now = next_due q e (n - i) (omega arith) s.enough
 
   abbrev later : Profile
   later = profile_from (end_of q e) (take (n - i - 1) (formulas (drop (end_of q e) q)))
 
-  now_same : prepends s.done (admit e (clause_of (formula_at q e)) (profile_from (end_of q e) (take (n - i - 1) (formulas (drop (end_of q e) q))))) ≡ profile_at q at n
+  now_same : prepends s.done (admit e (clause_of (formula_at q e)) (profile_from (end_of q e) (take (n - i - 1) (formulas (drop (end_of q e) q))))) ≡ all
   now_same = sym (ap (λ (xs : List Formula). prepends s.done (profile_from e xs)) now.split) ∙ s.same
 
   now_lettered : Each Lettered (formula_at q e ∷ take (n - i - 1) (formulas (drop (end_of q e) q)))
@@ -176,7 +184,7 @@ module _ (q : List ℕ) (at n : ℕ) (ms : List Masks) (e i : ℕ) (s : Storing 
   pub storing_well : Well q e × Lettered (formula_at q e)
   storing_well = (now.well, now_lettered.0)
 
-  refused : (k : ℕ) → admit e (clause_of (formula_at q e)) later ≡ outside k e → profile_at q at n ≡ outside k e
+  refused : (k : ℕ) → admit e (clause_of (formula_at q e)) later ≡ outside k e → all ≡ outside k e
   refused k f = sym now_same ∙ ap (prepends s.done) f ∙ prepends_outside s.done k e
 
   admitted : (c : Clause) (b : Bool) → clause_of (formula_at q e) ≡ some c → several c.positive ≡ b
@@ -184,18 +192,18 @@ module _ (q : List ℕ) (at n : ℕ) (ms : List Masks) (e i : ℕ) (s : Storing 
   admitted c b f g = ap (λ (o : Math.Option Clause). admit e o later) f ∙ ap (λ (d : Bool). choose d (outside MANY_POSITIVE e) (prepend c later)) g
 
   -- a formula that clauses do not decide
-  pub storing_stop : (r : NotClauses) → Err r ≡ clause_at q e → profile_reply (profile_at q at n) ≡ reply_of (Err r)
+  pub storing_stop : (r : NotClauses) → Err r ≡ clause_at q e → profile_reply (all) ≡ reply_of (Err r)
   storing_stop r f = go (clause_at q e) (found q e) f
     where
-      go : (w : Result (Masks × ℕ) NotClauses) → Found q e w → Err r ≡ w → profile_reply (profile_at q at n) ≡ reply_of (Err r)
+      go : (w : Result (Masks × ℕ) NotClauses) → Found q e w → Err r ≡ w → profile_reply (all) ≡ reply_of (Err r)
       go w (is_none m) f = let j : r ≡ NotClause e = cc in rw j (ap profile_reply (refused NOT_CLAUSE (ap (λ (o : Math.Option Clause). admit e o later) m)))
       go w (is_many c m g) f = let j : r ≡ ManyPositive e = cc in rw j (ap profile_reply (refused MANY_POSITIVE (admitted c true m g)))
       go w (is_single c m g) f = absurd (cc)
 
-  pub storing_next : (m : Masks) (d : ℕ) → Ok (m, d) ≡ clause_at q e → Storing q at n (set ms i m) d (i + 1)
+  pub storing_next : (m : Masks) (d : ℕ) → Ok (m, d) ≡ clause_at q e → Storing q all n (set ms i m) d (i + 1)
   storing_next m d f = go (clause_at q e) (found q e) f
     where
-      go : (w : Result (Masks × ℕ) NotClauses) → Found q e w → Ok (m, d) ≡ w → Storing q at n (set ms i m) d (i + 1)
+      go : (w : Result (Masks × ℕ) NotClauses) → Found q e w → Ok (m, d) ≡ w → Storing q all n (set ms i m) d (i + 1)
       go w (is_none k) f = absurd (cc)
       go w (is_many c k g) f = absurd (cc)
       go w (is_single c k g) f =
@@ -224,9 +232,9 @@ pub take_front : (n : ℕ) (ms others : List Masks) → length ms ≡ n → take
 take_front n ms others e = rw (← e) (take-append_seam ms others)
 
 -- all are stored
-pub storing_last : (q : List ℕ) (at n : ℕ) (ms : List Masks) (e i : ℕ) → Storing q at n ms e i → n ≤ i → (v : ClauseVerdict)
-    → ((cs : List Clause) → ms ≡ map masks_of cs → v ≡ answer_of (decided cs)) → reply_of (Ok v) ≡ profile_reply (profile_at q at n)
-storing_last q at n ms e i s h v f =
+pub storing_last : {q : List ℕ} {all : Profile} {n : ℕ} {ms : List Masks} {e i : ℕ} → Storing q all n ms e i → n ≤ i → (v : ClauseVerdict)
+    → ((cs : List Clause) → ms ≡ map masks_of cs → v ≡ answer_of (decided cs)) → reply_of (Ok v) ≡ profile_reply (all)
+storing_last {n = n} {ms = ms} {i = i} s h v f =
     let z : n - i ≡ 0 = omega arith in
     let k : take i ms ≡ ms = take_all i ms (omega (arith, s.room)) in
     ap (λ (v : ClauseVerdict). reply_of (Ok v)) (f s.done (sym k ∙ s.stored)) ∙ reply_answer (decided s.done)

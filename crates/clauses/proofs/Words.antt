@@ -18,7 +18,7 @@ use Rattle.calculus.proofs.Trees.{bit_zero, bit_state}
 use Rattle.calculus.proofs.States.{bit_ext}
 use Rattle.calculus.proofs.Rounds.{bit_light_all, one_of}
 use Rattle.clauses.specs.declared.Masks.{Masks}
-use Rattle.clauses.specs.Tables.{masks_of}
+use Rattle.clauses.specs.Masks.{masks_of}
 
 -- ---- the letters under NOT
 

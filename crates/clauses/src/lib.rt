@@ -2,16 +2,15 @@
 // letter without NOT is decided by unit clauses alone. A set of letters is a mask, letter k as bit k.
 #![tactic(auto)]
 
-ghost use Rattle.std.specs.Prelude.{◌≡◌, List, [], ◌∷◌, map, ◌≤◌, length, take, drop};
-ghost use Rattle.calculus.specs.Fold.{fold, ANY, Each};
-ghost use Rattle.calculus.specs.Limits.{FORMULAS};
-ghost use Rattle.calculus.specs.Bytes.{formulas, question, Lettered};
+ghost use Rattle.std.specs.Prelude.{◌≡◌, List, [], ◌∷◌, map, ◌≤◌};
+ghost use Rattle.calculus.specs.Fold.{fold, ANY};
+ghost use Rattle.calculus.specs.Bytes.{question, side_start, Lettered};
 ghost use Rattle.calculus.specs.Tree.{state};
 ghost use Rattle.calculus.specs.Clauses.{Clause, profile_from, profile, met, fired, round, rest, fails, decided};
 ghost use Rattle.calculus.specs.Reply.{profile_reply, clauses_reply};
 ghost use Rattle.question.specs.Positions.{Well, formula_at};
 ghost use Rattle.clauses.specs.Walks.{start_at, total, total_of, Within, Onward};
-ghost use Rattle.clauses.specs.Tables.{masks_of, settled_of, clause_at};
+ghost use Rattle.clauses.specs.Masks.{masks_of, settled_of, clause_at};
 ghost use Rattle.clauses.specs.Answers.{reply_of, answer_of, Settles};
 ghost use Rattle.clauses.specs.declared.NotClauses.TheVariants.{Refused};
 
@@ -106,7 +105,7 @@ impl Gathered {
         }
     }
 
-    // All formulas that are due.
+    // All formulas that are due, command by command: a range does not know how many there are.
     fn all(self, q: &[u8]) -> Option<Gathered>
         requires { Within q.now self }
         ensures { result ≡ total q.now self }
@@ -148,7 +147,8 @@ fn clause_at(q: &[u8], at: usize) -> Result<(Masks, usize), NotClauses>
     Ok((g.masks, g.at))
 }
 
-// The state after a round over the clauses.
+// The state after a round over the clauses. A clause that is not met joins an empty mask: with a `filter` a round took
+// twice the time.
 fn round(clauses: &[Masks], state: u64) -> u64
     ensures { (cs : List Clause) → clauses.now ≡ map masks_of cs → result ≡ round cs state }
 {
@@ -205,17 +205,15 @@ fn decide(clauses: &[Masks]) -> ClauseVerdict
     ClauseVerdict::Refuted(s.state, s.rounds)
 }
 
-// The clauses of n formulas that stand one after the other from a position on, and what they decide.
-fn decide_formulas(q: &[u8], at: usize, n: usize) -> Result<ClauseVerdict, NotClauses>
-    requires { (n ≤ FORMULAS)
-        × (n ≤ length (formulas (drop at q.now)))
-        × Each Lettered (take n (formulas (drop at q.now))) }
-    ensures { reply_of result ≡ profile_reply (profile_from at (take n (formulas (drop at q.now)))) }
+// What the clauses on the left side of an accepted question decide.
+fn decide_left(q: Question<'_>) -> Result<ClauseVerdict, NotClauses>
+    ensures { let S = question q.entry.bytes.now in reply_of result ≡ profile_reply (profile_from (side_start Side.Left S) S.on_left) }
 {
+    let mut at = q.start(Side::Left);
+    let n = q.count(Side::Left, at);
     let mut clauses = [Masks::default(); ALL_FORMULAS];
-    let mut end = at;
     for clause in clauses[..n].iter_mut() {
-        (*clause, end) = clause_at(q, end)?;
+        (*clause, at) = clause_at(q.bytes, at)?;
     }
     Ok(decide(&clauses[..n]))
 }
@@ -226,12 +224,10 @@ fn decide_accepted(q: Question<'_>) -> Result<ClauseVerdict, NotClauses>
     ensures { reply_of result ≡ profile_reply (profile (question q.entry.bytes.now)) }
 {
     let tail = q.bytes.len() - 2;
-    if q.bytes[tail] != question::head_of(Side::Right) {
-        return Err(NotClauses::RightFormula(q.start(Side::Right)));
+    if q.bytes[tail] == question::head_of(Side::Right) {
+        return decide_left(q);
     }
-    let start = q.start(Side::Left);
-    let n = q.count(Side::Left, start);
-    decide_formulas(q.bytes, start, n)
+    Err(NotClauses::RightFormula(q.start(Side::Right)))
 }
 
 // Decides a question of the profile by unit clauses alone.

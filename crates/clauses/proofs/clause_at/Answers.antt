@@ -1,6 +1,6 @@
 use Rattle.std.proofs.Common.{◌≡◌, Err, arith, rules, sym, ◌∙◌}
 use Rattle.clauses.specs.declared.NotClauses.TheVariants.{NotClause}
-use Rattle.clauses.specs.Tables.{clause_at}
+use Rattle.clauses.specs.Masks.{clause_at}
 use Rattle.clauses.proofs.Profiles.{start_within, clause_none, clause_many, clause_single}
 use Rattle.clauses.proofs.clause_at.Goals as goal
 

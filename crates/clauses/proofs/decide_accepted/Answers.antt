@@ -1,7 +1,7 @@
 use Rattle.std.proofs.Common.{refl, sym, ap, ◌∙◌, length}
 use Rattle.calculus.specs.Bytes.{question}
 use Rattle.calculus.specs.Reply.{profile_reply}
-use Rattle.clauses.proofs.Answers.{left_fit, left_profile, right_formula}
+use Rattle.clauses.proofs.Answers.{left_profile, right_formula}
 use Rattle.clauses.proofs.Rights.{two_at_least, right_empty, right_there}
 use Rattle.clauses.proofs.decide_accepted.Goals as goal
 
@@ -11,21 +11,11 @@ overflow_sub-tail c = let q = c.args.q in two_at_least q.bytes.now q.accepted
 pub returns-then-q-tail : goal.returns-then-q-tail
 returns-then-q-tail c =
     let q = c.args.q in
-    let s = question q.bytes.now in
-    right_formula s c.start.result (length s.on_right) c.start.ensures refl
-    (right_there q.bytes.now q.accepted (λ e. c.if-q-tail.true (e ∙ sym c.head_of.ensures)))
-
-pub decide_formulas-requires : goal.decide_formulas-requires
-decide_formulas-requires c =
-    let q = c.args.q in
-    let s = c.start-start in
-    let n = c.count-n in
-    left_fit q.bytes.now q.accepted s.result n.result s.ensures n.ensures
+    c.decide_left.ensures ∙ ap profile_reply (left_profile (question q.bytes.now) (right_empty q.bytes.now q.accepted (c.if-q-tail.true ∙ c.head_of.ensures)))
 
 pub returns : goal.returns
 returns c =
     let q = c.args.q in
-    let s = c.start-start in
-    let n = c.count-n in
-    c.decide_formulas.ensures
-    ∙ ap profile_reply (left_profile q.bytes.now q.accepted s.result n.result s.ensures n.ensures (right_empty q.bytes.now q.accepted (c.if-q-tail.false ∙ c.head_of.ensures)))
+    let s = question q.bytes.now in
+    right_formula s c.start.result (length s.on_right) c.start.ensures refl
+    (right_there q.bytes.now q.accepted (λ e. c.if-q-tail.false (e ∙ sym c.head_of.ensures)))

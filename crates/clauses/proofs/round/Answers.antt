@@ -1,6 +1,6 @@
 use Rattle.std.proofs.Common.{◌∙◌, rules}
 use Rattle.std.proofs.lemmas.Fn.{fold_over, slice_gives, fronts}
-use Rattle.clauses.proofs.Tables.{InRound, round_first, round_next}
+use Rattle.clauses.proofs.Rounds.{InRound, round_first, round_next}
 use Rattle.clauses.proofs.round.Goals as goal
 
 pub returns : goal.returns

@@ -1,5 +1,5 @@
 use Rattle.std.proofs.Common.{rules}
-use Rattle.clauses.proofs.Tables.{rounds_stop, rounds_next}
+use Rattle.clauses.proofs.Rounds.{rounds_stop, rounds_next}
 use Rattle.clauses.proofs.settle.Goals as goal
 
 pub returns-then-next-state : goal.returns-then-next-state

@@ -1,4 +1,4 @@
-use Rattle.clauses.proofs.Tables.{InRounds}
+use Rattle.clauses.proofs.Rounds.{InRounds}
 use Rattle.clauses.proofs.settle.Given as goal
 
 abbrev pub invariant-loop-rounds : goal.invariant-loop-rounds

@@ -1,7 +1,7 @@
 use Rattle.std.proofs.Common.{true, false, rules}
 use Rattle.std.proofs.lemmas.Iterator.{cases_from_any, YieldsList-from_slice}
 use Rattle.calculus.specs.Clauses.{fails}
-use Rattle.clauses.proofs.Tables.{Tests, any_test}
+use Rattle.clauses.proofs.Rounds.{Tests, any_test}
 use Rattle.clauses.proofs.some_fails.Goals as goal
 
 pub returns : goal.returns

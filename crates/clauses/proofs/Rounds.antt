@@ -19,7 +19,7 @@ use Rattle.calculus.specs.Clauses.{Clause, met, fired, light_all, round, Rest, f
 use Rattle.calculus.proofs.Rounds.{light_all_append}
 use Rattle.clauses.specs.declared.Masks.{Masks}
 use Rattle.clauses.specs.declared.Settled.{Settled}
-use Rattle.clauses.specs.Tables.{masks_of, settled_of}
+use Rattle.clauses.specs.Masks.{masks_of, settled_of}
 use Rattle.clauses.proofs.Words.{light_mask}
 
 -- ---- the last clause of a list
