@@ -40,6 +40,7 @@ use Rattle.sequent.proofs.Sets.{covered_premise}
 use Rattle.sequent.proofs.Twins.{held as names-held, slot_name as name-at-slot}
 use Rattle.sequent.proofs.Namings.{letter_named, same_name, Compounded, compound_named, rule_connective}
 use Rattle.sequent.proofs.Rules.{rule_premises, rule_full, size_named}
+use Rattle.sequent.proofs.Placings.{nowhere}
 use Rattle.sequent.proofs.Restarts.{restarts}
 
 -- ---- names that are known: their letters, and the first compound
@@ -236,15 +237,6 @@ module _ (T items : List ℕ) (s : Running) (good : Good T items s) where
   -- ---- a reduction that can be made
 
   module _ (r : Reduction) (can : Reducible T items s r) where
-    pub premises_made : map (premise_by T items s r) (rule_for r) ≡ premises_at T items s r
-    premises_made = premises_are r.side r.at can.inside can.compound r can.exact
-
-    pub few : length (rule_for r) ≤ 2
-    few = rw (rule_is r.side r.at can.inside can.compound r can.exact) (few_rows (compound_at T r.side r.at (view s items)).connective r.side).1
-
-    each_made : (Q : Sequent → Type 0) → Each Q (premises_at T items s r) → Each (λ p. Q (premise_by T items s r p)) (rule_for r)
-    each_made Q h = each_unmap (premise_by T items s r) Q (rule_for r) (subst (Each Q) (sym premises_made) h)
-
     fewer : Each (λ P. 1 + c P ≤ c (sequent_of T items s)) (premises_at T items s r)
     fewer = go (premises_at T items s r) (smaller r.side r.at (compound_at T r.side r.at (view s items)) (sequent_of T items s) (stands r.side r.at can.inside can.compound))
       where
@@ -263,17 +255,29 @@ module _ (T items : List ℕ) (s : Running) (good : Good T items s) where
         go Left h = omega (arith, good.room)
         go Right h = omega (arith, good.room)
 
-    -- each premise of its rule can be made
-    pub makes_each : Each (Makes T items s r) (rule_for r)
-    makes_each =
-        each (λ p. (size (premise_by T items s r p) ≤ ROOM) × (1 + c (premise_by T items s r p) ≤ c (sequent_of T items s))) (Makes T items s r)
-        (λ p h. record { good = good; can = can; small = h.0; fewer = h.1 }) (rule_for r)
-        (each_and (λ p. size (premise_by T items s r p) ≤ ROOM) (λ p. 1 + c (premise_by T items s r p) ≤ c (sequent_of T items s)) (rule_for r)
-        (each_made (λ P. size P ≤ ROOM) can.fits) (each_made (λ P. 1 + c P ≤ c (sequent_of T items s)) fewer))
+    -- ---- the premises of its rule
 
-    -- so can the next one of a loop over the rule
-    pub makes_next : (j : ℕ) (p : Placing) → p ≡ get_or (rule_for r) j p → j < length (rule_for r) → Makes T items s r p
-    makes_next j p e h = rw e (each_at (Makes T items s r) (rule_for r) j p makes_each h)
+    module _ (rule : List Placing) (e : rule ≡ rule_for r) where
+      pub premises_made : map (premise_by T items s r) rule ≡ premises_at T items s r
+      premises_made = ap (map (premise_by T items s r)) e ∙ premises_are r.side r.at can.inside can.compound r can.exact
+
+      pub few : length rule ≤ 2
+      few = rw (e, rule_is r.side r.at can.inside can.compound r can.exact) (few_rows (compound_at T r.side r.at (view s items)).connective r.side).1
+
+      each_made : (Q : Sequent → Type 0) → Each Q (premises_at T items s r) → Each (λ p. Q (premise_by T items s r p)) rule
+      each_made Q h = each_unmap (premise_by T items s r) Q rule (subst (Each Q) (sym premises_made) h)
+
+      -- each can be made
+      pub makes_each : Each (Makes T items s r) rule
+      makes_each =
+          each (λ p. (size (premise_by T items s r p) ≤ ROOM) × (1 + c (premise_by T items s r p) ≤ c (sequent_of T items s))) (Makes T items s r)
+          (λ p h. record { good = good; can = can; small = h.0; fewer = h.1 }) rule
+          (each_and (λ p. size (premise_by T items s r p) ≤ ROOM) (λ p. 1 + c (premise_by T items s r p) ≤ c (sequent_of T items s)) rule
+          (each_made (λ P. size P ≤ ROOM) can.fits) (each_made (λ P. 1 + c P ≤ c (sequent_of T items s)) fewer))
+
+      -- so can the next one of a loop over the rule
+      pub makes_next : (j : ℕ) → j < length rule → Makes T items s r (get_or rule j nowhere)
+      makes_next j h = each_at (Makes T items s r) rule j nowhere makes_each h
 
 -- ---- a premise made
 

@@ -1,6 +1,7 @@
 -- A loop over the premises of a rule: what is left, and the stores so far.
 -- Assumes nothing.
 use mathlib.Core.Path.{◌≡◌, sym, ap, ◌∙◌}
+use Rattle.std.specs.Prelude.{None}
 use mathlib.Core.List.{List, [], ◌∷◌, map}
 use Prim.Native.Nat.{ℕ, ◌+◌, ◌*◌, ◌≤◌, ◌<◌}
 use native.Mathlib.Numerals.{add-one}
@@ -12,9 +13,13 @@ use Rattle.calculus.specs.Limits.{ROOM}
 use Rattle.calculus.specs.Syntax.{Sequent, size}
 use Rattle.sequent.specs.declared.Placing.{Placing}
 
+-- no part placed: what a loop reads past the end of a rule
+abbrev pub nowhere : Placing
+nowhere = record { f = None; g = None }
+
 -- after j premises the next placing and the rest are left
-pub next : (r : List Placing) (j : ℕ) (d : Placing) → j < length r → drop j r ≡ get_or r j d ∷ drop (j + 1) r
-next r j d h = drop-cons r j d h ∙ ap (λ (n : ℕ). get_or r j d ∷ drop n r) (sym (add-one j))
+pub next : (r : List Placing) (j : ℕ) → j < length r → drop j r ≡ get_or r j nowhere ∷ drop (j + 1) r
+next r j h = drop-cons r j nowhere h ∙ ap (λ (n : ℕ). get_or r j nowhere ∷ drop n r) (sym (add-one j))
 
 -- after the last none
 pub next_ends : (r : List Placing) (j : ℕ) → length r ≤ j → drop j r ≡ []
@@ -30,10 +35,10 @@ module _ (F : Placing → Sequent) (r : List Placing) where
   sum_starts = record { stores = omega arith; small = omega arith }
 
   module _ (j n : ℕ) (t : Summed F r j n) where
-    pub sum_goes : j < length r → (p : Placing) → p ≡ get_or r j p → (m : ℕ) → m ≡ size (F p) → size (F p) ≤ ROOM → Summed F r (j + 1) (n + m)
-    sum_goes h p z m e k =
+    pub sum_goes : j < length r → (m : ℕ) → m ≡ size (F (get_or r j nowhere)) → size (F (get_or r j nowhere)) ≤ ROOM → Summed F r (j + 1) (n + m)
+    sum_goes h m e k =
         record {
-          stores = omega (arith, t.stores, e, ap (λ (ps : List Placing). fold SUM size (map F ps)) (next r j p h), ap (λ (q : Placing). size (F q)) z);
+          stores = omega (arith, t.stores, e, ap (λ (ps : List Placing). fold SUM size (map F ps)) (next r j h));
           small = omega (arith, t.small, e);
         }
 

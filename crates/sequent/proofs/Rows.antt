@@ -46,11 +46,14 @@ few_rows (two EQUIV) Left = (omega arith, omega arith)
 few_rows (two EQUIV) Right = (omega arith, omega arith)
 
 -- Where each premise of a rule places m parts, that tells whether there is room.
-pub alike_tells : (r : List Placing) (n m : ℕ) → 1 ≤ length r → Each (λ p. size (premise_of p) ≡ m) r → ltb (ROOM + 1) (n + m) ≡ overfull_of r n
-alike_tells [] n m h e = absurd (omega arith)
-alike_tells (p ∷ []) n m h e = rw e.0 (sym (or-false _))
-alike_tells (p ∷ q ∷ r) n m h e = rw (e.0, ← alike_tells (q ∷ r) n m (omega arith) e.1) (twice _)
+tells : (r : List Placing) (n m : ℕ) → 1 ≤ length r → Each (λ p. size (premise_of p) ≡ m) r → ltb (ROOM + 1) (n + m) ≡ overfull_of r n
+tells [] n m h e = absurd (omega arith)
+tells (p ∷ []) n m h e = rw e.0 (sym (or-false _))
+tells (p ∷ q ∷ r) n m h e = rw (e.0, ← tells (q ∷ r) n m (omega arith) e.1) (twice _)
   where
     twice : (b : Bool) → b ≡ (b || b)
     twice true = refl
     twice false = refl
+
+pub alike_tells : (k : Connective) (s : Side) (n m : ℕ) → Each (λ p. size (premise_of p) ≡ m) (rule_of k s) → ltb (ROOM + 1) (n + m) ≡ overfull_of (rule_of k s) n
+alike_tells k s n m e = tells (rule_of k s) n m (few_rows k s).0 e
