@@ -12,9 +12,9 @@ use Rattle.std.proofs.lemmas.List.{take_at, drop_at, take_all, take-append-drop}
 use Rattle.std.proofs.lemmas.List.{take-map, map_more}
 use Rattle.std.proofs.lemmas.List.Concat.{flat_map-cons, length-flat_map}
 use Rattle.std.proofs.lemmas.List.Folds.{concat-append}
-use borrow.Rule.Slice.PartMut.{mid_of, put_mid}
+use borrow.Rule.Slice.PartMut.{put_mid}
 use Rattle.calculus.specs.Syntax.{Formula}
-use Rattle.calculus.specs.Bytes.{encode, encode_all, bytes_all}
+use Rattle.calculus.specs.Bytes.{encode, encode_all}
 
 joined : (ls : List (Bor (List ℕ))) → flat_map (λ f. f.now) ls ≡ concat (map (λ f. f.now) ls)
 joined [] = refl

@@ -1,8 +1,8 @@
-use Rattle.std.proofs.Common.{arith, ◌≡◌, ◌+◌, ◌≤◌, ◌<◌, length, length-take, length-drop, ap, ◌∙◌}
-use Rattle.calculus.specs.Bytes.{question, encode}
-use Rattle.calculus.specs.Standard.{arranged, spelling}
+use Rattle.std.proofs.Common.{arith, ◌≡◌, ◌+◌, ◌≤◌, length, length-take, length-drop, ap, ◌∙◌}
+use Rattle.calculus.specs.Bytes.{question}
+use Rattle.calculus.specs.Standard.{spelling}
 use Rattle.spelling.proofs.Writes.{counted}
-use Rattle.spelling.proofs.Replies.{Entered, entered, left_small, total, small, both_written, short_reply, spelled_reply, spelled_one}
+use Rattle.spelling.proofs.Replies.{entered, left_small, total, small, both_written, short_reply, spelled_reply, spelled_one}
 use Rattle.spelling.proofs.spell.Goals as goal
 
 pub overflow_add-start : goal.overflow_add-start

@@ -1,4 +1,4 @@
-use Rattle.std.proofs.Common.{arith, ◌≡◌, ◌+◌, ◌-◌, ◌≤◌, [], ◌∷◌, length, map, sym, ap, ◌∙◌}
+use Rattle.std.proofs.Common.{arith, [], ◌∷◌, length, map}
 use Rattle.calculus.specs.Bytes.{SIDE, code}
 use Rattle.spelling.proofs.Writes.{counted, writing_first, writing_room, writing_next, writing_last}
 use Rattle.spelling.proofs.write_side.Goals as goal

@@ -1,7 +1,6 @@
-use Rattle.std.proofs.Common.{arith, ◌≡◌, ◌+◌, ◌-◌, ◌<◌, ◌≤◌, length, map, take, set, length-take, sym, ap, ◌∙◌}
+use Rattle.std.proofs.Common.{arith, ◌+◌, ◌-◌, ◌<◌, ◌≤◌, length, map, take, set, length-take, sym, ap, ◌∙◌}
 use lib.ListN.{length-map}
 use borrow.Rule.Slice.PartMut.{mid_of}
-use Rattle.std.proofs.lemmas.List.{map-append, take-map, drop-map}
 use Rattle.spelling.proofs.Order.{cut, turned, put_in}
 use Rattle.calculus.specs.Standard.{insert}
 use Rattle.spelling.proofs.Arranged.enter.Goals as goal
