@@ -1,7 +1,7 @@
 // The library's calls, for Rattle, and what each answers C: a number and words. The exports stand in `gekunday_c`.
 #![tactic(auto)]
 
-ghost use Rattle.std.specs.Prelude.{◌≡◌, ◌↔◌, [], ◌∷◌, ℕ, ◌≤◌, take};
+ghost use Rattle.std.specs.Prelude.{◌≡◌, ◌↔◌, [], ◌∷◌, ℕ, ◌≤◌, take, IfOk};
 ghost use Rattle.calculus.specs.Bytes.{question};
 ghost use Rattle.calculus.specs.Reading.{accepted, reading};
 ghost use Rattle.calculus.specs.Truth.{Valid};
@@ -32,7 +32,7 @@ use writer::{NotWritten, Written};
 // Decides a question within a budget of reductions.
 pub fn decide(q: &[u8], budget: u64) -> Result<Verdict, Refusal>
     ensures reply { decision_of result ≡ decide_reply q.now budget }
-    ensures promise { (v : Verdict) → result ≡ Ok v → Promised q.now budget v }
+    ensures promise { IfOk result (Promised q.now budget) }
 {
     prover::decide(q, budget)
 }
@@ -40,7 +40,7 @@ pub fn decide(q: &[u8], budget: u64) -> Result<Verdict, Refusal>
 // The width of a question, and its connectives.
 pub fn width_of(q: &[u8]) -> Result<Measure, Refusal>
     ensures reply { width_of result ≡ width_reply q.now }
-    ensures sized { (m : Measure) → result ≡ Ok m → Sized q.now m.width m.connectives }
+    ensures sized { IfOk result (λ m. Sized q.now m.width m.connectives) }
 {
     width::width(q)
 }
@@ -58,8 +58,7 @@ pub fn formula(q: &[u8], side: Side, place: usize) -> &[u8]
 pub fn derive(q: &[u8], budget: u64, buffer: &mut [u8]) -> Result<Written, NotWritten>
     ensures reply { answer_of result ≡ (derive q.now budget buffer.old).reply }
     ensures written { buffer.new ≡ (derive q.now budget buffer.old).buffer }
-    ensures evidence { (w : Written) → result ≡ Ok w
-        → (w.verdict.kind ≡ Kind.Theorem) × Evidence q.now (take w.length buffer.new) }
+    ensures evidence { IfOk result (λ w. (w.verdict.kind ≡ Kind.Theorem) × Evidence q.now (take w.length buffer.new)) }
 {
     writer::derive(q, budget, buffer)
 }
@@ -78,7 +77,7 @@ pub fn check(q: &[u8], derivation: &[u8]) -> Result<(), NotPassed>
 pub fn refuting_states(q: &[u8], list: &mut [u64]) -> Result<usize, NotListed>
     ensures reply { listing_of result ≡ (list_states q.now list.old).reply }
     ensures written { list.new ≡ (list_states q.now list.old).buffer }
-    ensures all { (n : ℕ) → result ≡ Ok n → Lists q.now (take n list.new) }
+    ensures all { IfOk result (λ n. Lists q.now (take n list.new)) }
 {
     states::refuting_states(q, list)
 }
@@ -87,7 +86,7 @@ pub fn refuting_states(q: &[u8], list: &mut [u64]) -> Result<usize, NotListed>
 pub fn spell(q: &[u8], buffer: &mut [u8]) -> Result<usize, NotSpelled>
     ensures reply { spelling_of result ≡ (spell q.now buffer.old).reply }
     ensures written { buffer.new ≡ (spell q.now buffer.old).buffer }
-    ensures one { (n : ℕ) → result ≡ Ok n → Spells q.now (take n buffer.new) }
+    ensures one { IfOk result (λ n. Spells q.now (take n buffer.new)) }
 {
     spelling::spell(q, buffer)
 }
