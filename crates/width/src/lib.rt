@@ -14,7 +14,7 @@ ghost use Rattle.width.specs.Answers.{width_of, Sized};
 mod connective;
 
 use calculus::Side;
-use connective::{Binary, Connective};
+pub use connective::{Binary, Connective, NoConnective};
 use question::{Question, Refusal};
 
 // A formula's pair of widths, on the left and on the right.
