@@ -7,7 +7,6 @@ ghost use Rattle.calculus.specs.Limits;
 ghost use Rattle.calculus.specs.Limits.{CONNECTIVES, ROOM};
 ghost use Rattle.calculus.specs.Syntax.{Formula, on_side};
 ghost use Rattle.calculus.specs.Bytes.{question, side_start, start_of};
-ghost use Rattle.calculus.specs.Reading.{accepted, reading};
 ghost use Rattle.question.specs.Positions.{formula_at, end_of};
 ghost use Rattle.sequent.specs.Names.{node, first_of, second_of};
 ghost use Rattle.sequent.specs.View.{sequent_of, Good};
@@ -15,7 +14,7 @@ ghost use Rattle.sequent.specs.Compounds.{Stands};
 ghost use Rattle.names.specs.Loads.{Nodes, Noted, Numbers, Numbered, Loads, Enters, before};
 
 use calculus::Side;
-use question::LETTERS;
+use question::{LETTERS, Question};
 use sequent::Running;
 
 // A formula's name, the position behind it and the number of the next node.
@@ -158,24 +157,29 @@ fn enter(q: &[u8], nodes: &mut [u32; 48], items: &mut [u8; 80], l: Loaded) -> Lo
 }
 
 // The formulas of a side of an accepted question, where that side starts.
-fn load(q: &[u8], nodes: &mut [u32; 48], items: &mut [u8; 80], side: Side, start: Loaded) -> Loaded
-    requires { (reading q.now ≡ accepted)
-        × (start.end ≡ side_start side (question q.now))
-        × Loads nodes.old items.old start.places start (before side (question q.now)) }
+fn load(
+    q: Question<'_>,
+    nodes: &mut [u32; 48],
+    items: &mut [u8; 80],
+    side: Side,
+    start: Loaded,
+) -> Loaded
+    requires { (start.end ≡ side_start side (question q.bytes.now))
+        × Loads nodes.old items.old start.places start (before side (question q.bytes.now)) }
     ensures { Loads
         nodes.new
         items.new
         start.places
         result
-        (before side (question q.now) ++ on_side side (question q.now))
+        (before side (question q.entry.bytes.now) ++ on_side side (question q.entry.bytes.now))
         × (take start.places items.new ≡ take start.places items.old)
-        × (result.end ≡ start_of side (length (on_side side (question q.now))) (question q.now)) }
+        × (result.end ≡ start_of side (length (on_side side (question q.entry.bytes.now))) (question q.entry.bytes.now)) }
 {
-    let n = question::side_count(q, side, start.end);
+    let n = q.count(side, start.end);
     let mut l = start;
     let mut i = 0;
     while i < n {
-        l = enter(q, nodes, items, l);
+        l = enter(q.bytes, nodes, items, l);
         i += 1;
     }
     l
@@ -183,10 +187,10 @@ fn load(q: &[u8], nodes: &mut [u32; 48], items: &mut [u8; 80], side: Side, start
 
 // The running sequent of an accepted question, its nodes and its places. The right side starts two bytes behind the left
 // side's formulas.
-pub fn root(q: &[u8], nodes: &mut [u32; 48], items: &mut [u8; 80]) -> Running
-    requires { (reading q.now ≡ accepted) × (length nodes.old ≡ CONNECTIVES) × (length items.old ≡ ROOM) }
+pub fn root(q: Question<'_>, nodes: &mut [u32; 48], items: &mut [u8; 80]) -> Running
+    requires { (length nodes.old ≡ CONNECTIVES) × (length items.old ≡ ROOM) }
     ensures { Good nodes.new items.new result
-        × (sequent_of nodes.new items.new result ≡ question q.now) }
+        × (sequent_of nodes.new items.new result ≡ question q.entry.bytes.now) }
 {
     let start = Loaded {
         places: 0,

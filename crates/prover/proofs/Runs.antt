@@ -25,7 +25,7 @@ use Rattle.sequent.specs.View.{view, sequent_of}
 use Rattle.prover.specs.declared.Finding.{Finding}
 use Rattle.prover.specs.declared.Reduced.{Reduced}
 use Rattle.prover.specs.Inner.{inner_of, Stepped}
-use Rattle.prover.specs.Runs.{after, made, outcome_of, Ran, Comes}
+use Rattle.prover.specs.Runs.{after, made, ended, Ran, Comes}
 
 -- what the step answers, the run does
 pub answered : (T items : List ℕ) (s : Running) (b : ℕ) (f : Finding) → Stepped T items s b f → act outcome b (sequent_of T items s) (inner_of T (view s items) f) ≡ outcome b (sequent_of T items s)
@@ -56,32 +56,33 @@ pairings_small b S = pairings_less b (tree S).events (tree S).end
 
 -- ---- the premises ahead
 
--- an outcome after k closings, m of them by equal formulas
-abbrev more : ℕ → ℕ → Outcome → Outcome
-more k m v = record { kind = v.kind; unspent = v.unspent; closings = k + v.closings; pairings = m + v.pairings }
-
 stops : (k : Kind) → (k ≡ Theorem → ⊥) → (o : Outcome) (u : ℕ → Outcome) (Ps : List Sequent) → (and_then k o u ≡ o) × (after k Ps ≡ [])
 stops Theorem n o u Ps = absurd (n refl)
 stops (Refuted σ) n o u Ps = (refl, refl)
 stops Spent n o u Ps = (refl, refl)
 stops Full n o u Ps = (refl, refl)
 
--- j premises are run: o reductions are left, k sequents were closed, m of them by equal formulas, n places were stored, and p is the
--- next placing
-pub record Ahead (F : Placing → Sequent) (r : Rule) (b j o k m n : ℕ) (p : Placing) : Type 0 where
+-- j premises are run and closed, and come to o so far, with n places stored; p is the next placing
+pub record Ahead (F : Placing → Sequent) (r : Rule) (b j : ℕ) (o : Outcome) (n : ℕ) (p : Placing) : Type 0 where
   pub next : Next r j p
-  pub outcome : pass outcome b (map F (placings r)) ≡ more k m (pass outcome o (map F (drop j (placings r))))
-  pub stores : n + fold SUM size (made o (map F (drop j (placings r)))) ≡ fold SUM size (made b (map F (placings r)))
-  pub few : k ≤ 2 ^ CONNECTIVES * j
-  pub among : m ≤ k
+  pub closed : o.kind ≡ Theorem
+  pub outcome : pass outcome b (map F (placings r)) ≡ and_then Theorem o (λ l. pass outcome l (map F (drop j (placings r))))
+  pub stores : n + fold SUM size (made o.unspent (map F (drop j (placings r)))) ≡ fold SUM size (made b (map F (placings r)))
+  pub few : o.closings ≤ 2 ^ CONNECTIVES * j
+  pub among : o.pairings ≤ o.closings
   pub small : n ≤ ROOM * j
 
+-- an outcome so far, and that of the premise after it
+abbrev pub and_so : Outcome → Outcome → Outcome
+and_so o v = record { kind = v.kind; unspent = v.unspent; closings = o.closings + v.closings; pairings = o.pairings + v.pairings }
+
 module _ (F : Placing → Sequent) (r : Rule) (count : OneOrTwo r) (b : ℕ) where
-  pub ahead_starts : Ahead F r b 0 b 0 0 0 r.first
+  pub ahead_starts : Ahead F r b 0 (ended Theorem b 0 0) 0 r.first
   ahead_starts =
       let v = pass outcome b (map F (placings r)) in
       record {
         next = next_starts r count;
+        closed = refl;
         outcome = λ i. record { kind = v.kind; unspent = v.unspent; closings = sym (zero-add v.closings) i; pairings = sym (zero-add v.pairings) i };
         stores = zero-add _;
         few = omega arith;
@@ -89,48 +90,49 @@ module _ (F : Placing → Sequent) (r : Rule) (count : OneOrTwo r) (b : ℕ) whe
         small = omega arith;
       }
 
-  module _ (j o k m n : ℕ) (p : Placing) (a : Ahead F r b j o k m n p) (h : j < r.premises) (u : Reduced) (e : Ran o (F p) u) where
+  module _ (j : ℕ) (o : Outcome) (n : ℕ) (p : Placing) (a : Ahead F r b j o n p) (h : j < r.premises) (u : Reduced) (e : Ran o.unspent (F p) u) where
     abbrev rest : List Sequent
     rest = map F (drop (j + 1) (placings r))
 
-    opened : pass outcome o (map F (drop j (placings r))) ≡ and_then u.kind (outcome_of u) (λ l. pass outcome l rest)
-    opened = ap (λ (ps : List Placing). pass outcome o (map F ps)) (a.next.next h) ∙ ap (λ (v : Outcome). and_then v.kind v (λ l. pass outcome l rest)) (sym e.outcome)
+    opened : pass outcome o.unspent (map F (drop j (placings r))) ≡ and_then u.outcome.kind u.outcome (λ l. pass outcome l rest)
+    opened = ap (λ (ps : List Placing). pass outcome o.unspent (map F ps)) (a.next.next h) ∙ ap (λ (v : Outcome). and_then v.kind v (λ l. pass outcome l rest)) (sym e.outcome)
 
-    made_opened : made o (map F (drop j (placings r))) ≡ F p ∷ after u.kind (made u.unspent rest)
+    made_opened : made o.unspent (map F (drop j (placings r))) ≡ F p ∷ after u.outcome.kind (made u.outcome.unspent rest)
     made_opened =
-        ap (λ (ps : List Placing). made o (map F ps)) (a.next.next h)
+        ap (λ (ps : List Placing). made o.unspent (map F ps)) (a.next.next h)
         ∙ ap (λ (v : Outcome). F p ∷ after v.kind (made v.unspent rest)) (sym e.outcome)
 
-    pub ahead_goes : u.kind ≡ Theorem → u.closings ≤ 2 ^ CONNECTIVES → u.pairings ≤ u.closings → size (F p) ≤ ROOM
-        → Ahead F r b (j + 1) u.unspent (k + u.closings) (m + u.pairings) (n + u.stores) r.second
+    pub ahead_goes : u.outcome.kind ≡ Theorem → u.outcome.closings ≤ 2 ^ CONNECTIVES → u.outcome.pairings ≤ u.outcome.closings → size (F p) ≤ ROOM
+        → Ahead F r b (j + 1) (and_so o u.outcome) (n + u.stores) r.second
     ahead_goes t f d g =
-        let v = pass outcome u.unspent rest in
-        let w : made o (map F (drop j (placings r))) ≡ F p ∷ made u.unspent rest = rw t at made_opened in
+        let v = pass outcome u.outcome.unspent rest in
+        let w : made o.unspent (map F (drop j (placings r))) ≡ F p ∷ made u.outcome.unspent rest = rw t at made_opened in
         record {
           next = next_goes r count j p a.next h;
-          outcome = a.outcome ∙ ap (more k m) (rw t at opened) ∙ (λ i. record { kind = v.kind; unspent = v.unspent; closings = sym (add_assoc k u.closings v.closings) i; pairings = sym (add_assoc m u.pairings v.pairings) i });
+          closed = t;
+          outcome = a.outcome ∙ ap (and_so o) (rw t at opened) ∙ (λ i. record { kind = v.kind; unspent = v.unspent; closings = sym (add_assoc o.closings u.outcome.closings v.closings) i; pairings = sym (add_assoc o.pairings u.outcome.pairings v.pairings) i });
           stores = omega (arith, a.stores, ap (fold SUM size) w, e.stores);
           few = omega (arith, a.few);
           among = omega (arith, a.among, d);
           small = omega (arith, a.small, e.stores);
         }
 
-    pub ahead_stops : (u.kind ≡ Theorem → ⊥) → Comes b (map F (placings r)) (record { kind = u.kind; unspent = u.unspent; closings = k + u.closings; pairings = m + u.pairings; stores = n + u.stores })
+    pub ahead_stops : (u.outcome.kind ≡ Theorem → ⊥) → Comes b (map F (placings r)) (record { outcome = and_so o u.outcome; stores = n + u.stores })
     ahead_stops t =
-        let s = stops u.kind t (outcome_of u) (λ l. pass outcome l rest) (made u.unspent rest) in
-        let w : made o (map F (drop j (placings r))) ≡ F p ∷ [] = made_opened ∙ ap (λ (Ps : List Sequent). F p ∷ Ps) s.1 in
+        let s = stops u.outcome.kind t u.outcome (λ l. pass outcome l rest) (made u.outcome.unspent rest) in
+        let w : made o.unspent (map F (drop j (placings r))) ≡ F p ∷ [] = made_opened ∙ ap (λ (Ps : List Sequent). F p ∷ Ps) s.1 in
         record {
-          outcome = sym (a.outcome ∙ ap (more k m) (opened ∙ s.0));
+          outcome = sym (a.outcome ∙ ap (and_so o) (opened ∙ s.0));
           stores = omega (arith, a.stores, ap (fold SUM size) w, e.stores);
         }
 
-  pub ahead_ends : (j o k m n : ℕ) (p : Placing) → Ahead F r b j o k m n p → r.premises ≤ j
-      → Comes b (map F (placings r)) (record { kind = Theorem; unspent = o; closings = k; pairings = m; stores = n })
-  ahead_ends j o k m n p a h =
+  pub ahead_ends : (j : ℕ) (o : Outcome) (n : ℕ) (p : Placing) → Ahead F r b j o n p → r.premises ≤ j
+      → Comes b (map F (placings r)) (record { outcome = o; stores = n })
+  ahead_ends j o n p a h =
       let e = next_ends r count j h in
       record {
-        outcome = sym (a.outcome ∙ ap (λ (ps : List Placing). more k m (pass outcome o (map F ps))) e ∙ (λ i. record { kind = Theorem; unspent = o; closings = add-zero k i; pairings = add-zero m i }));
-        stores = omega (arith, a.stores, ap (λ (ps : List Placing). fold SUM size (made o (map F ps))) e);
+        outcome = sym (a.outcome ∙ ap (λ (ps : List Placing). and_so o (pass outcome o.unspent (map F ps))) e ∙ (λ i. record { kind = sym a.closed i; unspent = o.unspent; closings = add-zero o.closings i; pairings = add-zero o.pairings i }));
+        stores = omega (arith, a.stores, ap (λ (ps : List Placing). fold SUM size (made o.unspent (map F ps))) e);
       }
 
 -- ---- the premises made are all of the rule's, unless the run ended in the first

@@ -1,13 +1,12 @@
 // The inner step on a running sequent, the run made from it, and the call that decides.
 #![tactic(auto)]
 
-ghost use Rattle.std.specs.Prelude.{◌≡◌, ◌%◌, ◌≤◌, length};
+ghost use Rattle.std.specs.Prelude.{◌≡◌, ◌%◌, ◌≤◌, length, IfOk};
 ghost use Rattle.std.proofs.Math.Option.{none};
 ghost use Rattle.calculus.specs.Limits;
 ghost use Rattle.calculus.specs.Limits.{CONNECTIVES};
 ghost use Rattle.calculus.specs.Syntax.{Connective, c, size};
 ghost use Rattle.calculus.specs.Bytes.{CONNECTIVE, code, question};
-ghost use Rattle.calculus.specs.Reading.{reading, accepted};
 ghost use Rattle.calculus.specs.Reply.{decide_reply};
 ghost use Rattle.calculus.specs.Tree.{verdict_of, verdict, outcome, closing, afford, due};
 ghost use Rattle.sequent.specs.declared.Place.TheVariants.{At};
@@ -19,7 +18,7 @@ ghost use Rattle.prover.specs.Inner.{inner_of, Ready, Stepped, First};
 ghost use Rattle.prover.specs.Runs.{ended, Ran, Comes};
 
 use calculus::{Kind, Outcome, Side, Verdict};
-use question::{Reading, Refusal};
+use question::{Question, Refusal};
 use sequent::{Pair, Place, Placing, ROOM, Reduction, Running};
 
 // What is due at a sequent, with the reductions left.
@@ -40,10 +39,7 @@ pub enum Finding {
 // What a reduction comes to, and the stores made for its premises.
 #[derive(Clone, Copy)]
 pub struct Reduced {
-    pub kind: Kind,
-    pub unspent: u64,
-    pub closings: u64,
-    pub pairings: u64,
+    pub outcome: Outcome,
     pub stores: usize,
 }
 
@@ -159,23 +155,7 @@ fn run(nodes: &[u32; 48], items: &[u8; 80], s: Running, from: usize, left: u64) 
         Finding::Open(state) => ended(Kind::Refuted(state), left, 0, 0),
         Finding::Full => ended(Kind::Full, left, 0, 0),
         Finding::Spent => ended(Kind::Spent, left, 0, 0),
-        Finding::Reduce(r) => {
-            let o = reduce(nodes, items, s, r, left - 1);
-            let kind = o.kind;
-            ended(kind, o.unspent, o.closings, o.pairings)
-        }
-    }
-}
-
-// The same kind, put together anew: a copy takes the unused bytes between its mark and its state along, which takes longer.
-fn same(kind: Kind) -> Kind
-    ensures { result ≡ kind }
-{
-    match kind {
-        Kind::Theorem => Kind::Theorem,
-        Kind::Refuted(state) => Kind::Refuted(state),
-        Kind::Spent => Kind::Spent,
-        Kind::Full => Kind::Full,
+        Finding::Reduce(r) => reduce(nodes, items, s, r, left - 1).outcome,
     }
 }
 
@@ -192,21 +172,13 @@ fn run_premise(
 ) -> Reduced
     requires { Makes nodes.now items.now s r p
         × Found (view s items.now) (At r.side r.at)
-        × (c (sequent_of nodes.now items.now s) ≤ CONNECTIVES)
-        × (length next.old ≡ Limits.ROOM) }
-    ensures { Ran left (premise_by nodes.now items.now s r p) result
-        × (length next.new ≡ Limits.ROOM) }
+        × (c (sequent_of nodes.now items.now s) ≤ CONNECTIVES) }
+    ensures { Ran left (premise_by nodes.now items.now s r p) result }
 {
     let made = s.premise(items, next, r, p);
-    let t = made.running;
-    let side = r.side;
-    let o = run(nodes, next, t, s.start(side, r.at), left);
-    let kind = o.kind;
+    let outcome = run(nodes, next, made.running, s.start(r.side, r.at), left);
     Reduced {
-        kind: same(kind),
-        unspent: o.unspent,
-        closings: o.closings,
-        pairings: o.pairings,
+        outcome,
         stores: made.stores,
     }
 }
@@ -220,47 +192,31 @@ fn reduce(nodes: &[u32; 48], items: &[u8; 80], s: Running, r: Reduction, left: u
     let rule = r.rule();
     let n = rule.premises;
     let mut p = rule.first;
-    let mut unspent = left;
-    let mut closings = 0;
-    let mut pairings = 0;
+    let mut o = ended(Kind::Theorem, left, 0, 0);
     let mut stores = 0;
     let mut next = [0u8; 80];
     let mut j = 0;
     while j < n {
-        let o = run_premise(nodes, items, s, r, p, unspent, &mut next);
-        unspent = o.unspent;
-        closings += o.closings;
-        pairings += o.pairings;
-        stores += o.stores;
-        let kind = o.kind;
-        match kind {
-            Kind::Theorem => {}
-            _ => {
-                return Reduced {
-                    kind: kind,
-                    unspent: unspent,
-                    closings: closings,
-                    pairings: pairings,
-                    stores: stores,
-                };
-            }
-        }
+        let m = run_premise(nodes, items, s, r, p, o.unspent, &mut next);
+        stores += m.stores;
+        o = Outcome {
+            kind: m.outcome.kind,
+            unspent: m.outcome.unspent,
+            closings: o.closings + m.outcome.closings,
+            pairings: o.pairings + m.outcome.pairings,
+        };
+        let Kind::Theorem = o.kind else {
+            break;
+        };
         p = rule.second;
         j += 1;
     }
-    Reduced {
-        kind: Kind::Theorem,
-        unspent: unspent,
-        closings: closings,
-        pairings: pairings,
-        stores: stores,
-    }
+    Reduced { outcome: o, stores }
 }
 
 // What the run of an accepted question comes to.
-pub fn outcome_of(q: &[u8], budget: u64) -> Outcome
-    requires { reading q.now ≡ accepted }
-    ensures { result ≡ outcome budget (question q.now) }
+pub fn outcome_of(q: Question<'_>, budget: u64) -> Outcome
+    ensures { result ≡ outcome budget (question q.entry.bytes.now) }
 {
     let mut nodes = [0u32; 48];
     let mut items = [0u8; 80];
@@ -273,37 +229,25 @@ pub fn report(o: Outcome, budget: u64) -> Verdict
     requires { o.unspent ≤ budget }
     ensures { result ≡ verdict_of budget o }
 {
-    let kind = o.kind;
     Verdict {
-        kind: kind,
+        kind: o.kind,
         reductions: budget - o.unspent,
         closings: o.closings,
     }
 }
 
 // The verdict of an accepted question.
-pub fn verdict_of(q: &[u8], budget: u64) -> Verdict
-    requires { reading q.now ≡ accepted }
-    ensures { result ≡ verdict budget (question q.now) }
+pub fn verdict_of(q: Question<'_>, budget: u64) -> Verdict
+    ensures { result ≡ verdict budget (question q.entry.bytes.now) }
 {
-    let o = outcome_of(q, budget);
-    report(o, budget)
-}
-
-#[derive(Clone, Copy)]
-pub enum Decision {
-    Refused(Refusal),
-    Decided(Verdict),
+    report(outcome_of(q, budget), budget)
 }
 
 // Decides a question within a budget of reductions.
-pub fn decide(q: &[u8], budget: u64) -> Decision
+pub fn decide(q: &[u8], budget: u64) -> Result<Verdict, Refusal>
     ensures reply { decision_of result ≡ decide_reply q.now budget }
-    ensures promise { (v : Verdict) → result ≡ Decision.Decided v → Promised q.now budget v }
+    ensures promise { IfOk result (Promised q.now budget) }
 {
-    let reading = question::read(q);
-    match reading {
-        Reading::Accepted => Decision::Decided(verdict_of(q, budget)),
-        Reading::Refused(r) => Decision::Refused(r),
-    }
+    let q = Question::read(q)?;
+    Ok(verdict_of(q, budget))
 }

@@ -1,7 +1,6 @@
 -- The connectives of the running sequent fall from a sequent to its premises. The invariant of the loop over the premises: the
 -- run of those so far, what is left of the budget, and the premise that is next.
 use Rattle.std.proofs.Common.{◌≡◌, ◌+◌, ◌-◌, ◌*◌, length}
-use Rattle.calculus.specs.Limits.{ROOM}
 use Rattle.calculus.specs.Syntax.{c as connectives_of}
 use Rattle.sequent.specs.View.{sequent_of}
 use Rattle.sequent.specs.Compounds.{rule_for, premise_by}
@@ -19,7 +18,7 @@ decreases-run_premise l = 3 * connectives_of (sequent_of l.nodes.now l.items.now
 
 abbrev pub invariant-reduce-loop-j : goal.invariant-reduce-loop-j
 invariant-reduce-loop-j l =
-    Ahead (premise_by l.nodes l.items l.s l.r) (rule_for l.r) l.left l.j l.unspent l.closings l.pairings l.stores l.p × (length l.next ≡ ROOM)
+    Ahead (premise_by l.nodes l.items l.s l.r) (rule_for l.r) l.left l.j l.o l.stores l.p
 
 abbrev pub decreases-reduce-loop-j : goal.decreases-reduce-loop-j
 decreases-reduce-loop-j l = l.n - l.j
