@@ -3,6 +3,7 @@
 use mathlib.Core.Path.{◌≡◌, refl, sym, ap, ◌∙◌, subst}
 use mathlib.Core.List.{List, [], ◌∷◌, ◌++◌, map}
 use Prim.Native.Nat.{ℕ, ◌+◌, ◌^◌, ◌≤◌, ◌<◌}
+use native.Mathlib.Nat.{zero-add}
 use native.Mathlib.Numerals.{add-one}
 use native.Mathlib.Omega.{arith}
 use lib.ListN.{length, drop, set, length-append}
@@ -127,18 +128,18 @@ sets_behind l at a b ds = sets_append l at (a ∷ b ∷ []) ds
 
 -- ---- the premises of a rule, one after the other
 
--- j premises are written, up to `end`, with n stores, and p is the next placing
-pub record Ahead (F : Placing → Sequent) (r : Rule) (old : List ℕ) (at j end n : ℕ) (new : List ℕ) (p : Placing) : Type 0 where
+-- j premises are written, in so many bytes and with n stores, and p is the next placing
+pub record Ahead (F : Placing → Sequent) (r : Rule) (old : List ℕ) (j bytes n : ℕ) (new : List ℕ) (p : Placing) : Type 0 where
   pub sum : Summed F r j n p
-  pub place : end + length (derivations (map F (drop j (placings r)))) ≡ at + length (derivations (map F (placings r)))
-  pub bytes : sets new end (derivations (map F (drop j (placings r)))) ≡ sets old at (derivations (map F (placings r)))
+  pub place : bytes + length (derivations (map F (drop j (placings r)))) ≡ length (derivations (map F (placings r)))
+  pub stored : sets new bytes (derivations (map F (drop j (placings r)))) ≡ sets old 0 (derivations (map F (placings r)))
   pub long : length new ≡ length old
 
-module _ (F : Placing → Sequent) (r : Rule) (count : OneOrTwo r) (old : List ℕ) (at : ℕ) where
-  pub ahead_starts : Ahead F r old at 0 at 0 old r.first
-  ahead_starts = record { sum = sum_starts F r count; place = refl; bytes = refl; long = refl }
+module _ (F : Placing → Sequent) (r : Rule) (count : OneOrTwo r) (old : List ℕ) where
+  pub ahead_starts : Ahead F r old 0 0 0 old r.first
+  ahead_starts = record { sum = sum_starts F r count; place = zero-add _; stored = refl; long = refl }
 
-  module _ (j end n : ℕ) (new : List ℕ) (p : Placing) (a : Ahead F r old at j end n new p) where
+  module _ (j bytes n : ℕ) (new : List ℕ) (p : Placing) (a : Ahead F r old j bytes n new p) where
     pub next_provable : Each Provable (map F (placings r)) → j < r.premises → Provable (F p)
     next_provable h k = next_each r count (λ p. Provable (F p)) (each_unmap F Provable (placings r) h) j p a.sum.next k
 
@@ -146,26 +147,26 @@ module _ (F : Placing → Sequent) (r : Rule) (count : OneOrTwo r) (old : List �
       ahead_bytes : derivations (map F (drop j (placings r))) ≡ derivation (F p) ++ derivations (map F (drop (j + 1) (placings r)))
       ahead_bytes = ap (λ (ps : List Placing). derivations (map F ps)) (a.sum.next.next h)
 
-      pub next_room : at + length (derivations (map F (placings r))) ≤ length old → end + length (derivation (F p)) ≤ length new
+      pub next_room : length (derivations (map F (placings r))) ≤ length old → bytes + length (derivation (F p)) ≤ length new
       next_room k = omega (arith, a.place, a.long, ap length ahead_bytes, length-append (derivation (F p)) (derivations (map F (drop (j + 1) (placings r)))))
 
-      pub ahead_goes : (e : Emitted) (last : List ℕ) → Emits (derivation (F p)) (size (F p)) end new last e → size (F p) ≤ ROOM
-          → Ahead F r old at (j + 1) e.end (n + e.stores) last r.second
-      ahead_goes e last w k =
+      pub ahead_goes : (e : Emitted) (last : List ℕ) → e.length ≡ length (derivation (F p)) → last ≡ sets new bytes (derivation (F p)) → e.stores ≡ size (F p) → size (F p) ≤ ROOM
+          → Ahead F r old (j + 1) (bytes + e.length) (n + e.stores) last r.second
+      ahead_goes e last w v u k =
           let rest = derivations (map F (drop (j + 1) (placings r))) in
           record {
-            sum = sum_goes F r count j n p a.sum h e.stores w.stores k;
-            place = omega (arith, a.place, w.end, ap length ahead_bytes, length-append (derivation (F p)) rest);
-            bytes = ap (λ (i : ℕ). sets last i rest) w.end ∙ ap (λ (l : List ℕ). sets l (end + length (derivation (F p))) rest) w.written ∙ sets_append new end (derivation (F p)) rest
-                ∙ ap (sets new end) (sym ahead_bytes) ∙ a.bytes;
-            long = ap length w.written ∙ length-sets new end (derivation (F p)) ∙ a.long;
+            sum = sum_goes F r count j n p a.sum h e.stores u k;
+            place = omega (arith, a.place, w, ap length ahead_bytes, length-append (derivation (F p)) rest);
+            stored = ap (λ (i : ℕ). sets last (bytes + i) rest) w ∙ ap (λ (l : List ℕ). sets l (bytes + length (derivation (F p))) rest) v ∙ sets_append new bytes (derivation (F p)) rest
+                ∙ ap (sets new bytes) (sym ahead_bytes) ∙ a.stored;
+            long = ap length v ∙ length-sets new bytes (derivation (F p)) ∙ a.long;
           }
 
-    pub ahead_ends : r.premises ≤ j → Emits (derivations (map F (placings r))) (fold SUM size (map F (placings r))) at old new (record { end = end; stores = n })
+    pub ahead_ends : r.premises ≤ j → Emits (derivations (map F (placings r))) (fold SUM size (map F (placings r))) old new (record { length = bytes; stores = n })
     ahead_ends h =
         let e = next_ends r count j h in
         record {
-          end = omega (arith, a.place, ap (λ (ps : List Placing). length (derivations (map F ps))) e);
-          written = sym (ap (λ (ps : List Placing). sets new end (derivations (map F ps))) e) ∙ a.bytes;
+          long = omega (arith, a.place, ap (λ (ps : List Placing). length (derivations (map F ps))) e);
+          written = sym (ap (λ (ps : List Placing). sets new bytes (derivations (map F ps))) e) ∙ a.stored;
           stores = sum_ends F r count j n p a.sum h;
         }

@@ -18,7 +18,7 @@ decreases-emit_premises l = 3 * connectives_of (sequent_of l.nodes.now l.items.n
 
 abbrev pub invariant-emit_premises-loop-j : goal.invariant-emit_premises-loop-j
 invariant-emit_premises-loop-j l =
-    Ahead (premise_by l.nodes l.items l.s l.r) (rule_for l.r) l.initial.buffer l.at l.j l.end l.stores l.buffer l.p
+    Ahead (premise_by l.nodes l.items l.s l.r) (rule_for l.r) l.initial.out l.j l.length l.stores l.out l.p
 
 abbrev pub decreases-emit_premises-loop-j : goal.decreases-emit_premises-loop-j
 decreases-emit_premises-loop-j l = l.n - l.j
