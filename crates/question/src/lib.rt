@@ -242,26 +242,42 @@ pub struct Walk {
     pub due: usize,
 }
 
-// The formulas due after a connective.
-fn due_after(d: usize, b: u8) -> usize
-    requires { (d < 2 ^ 63) × (b ≡ 1 → ⊥) }
-    ensures { result ≡ due_after d b }
-{
-    if b == 2 { d } else { d + 1 }
-}
-
-// The walk up to the next letter.
-fn to_letter(q: &[u8], w: Walk) -> Walk
-    requires { (1 ≤ w.due) × (w.due ≤ length (formulas (drop w.at q.now))) }
-    ensures { Reached q.now w.at w.due result.at result.due × (get_or q.now result.at 0 ≡ code LETTER) }
-{
-    let mut i = w.at;
-    let mut due = w.due;
-    while q[i] != 1 {
-        due = due_after(due, q[i]);
-        i += 1;
+impl Walk {
+    // Past a connective.
+    fn past_connective(self, b: u8) -> Walk
+        requires { (self.at < 2 ^ 63) × (self.due < 2 ^ 63) × (b ≡ 1 → ⊥) }
+        ensures { result ≡ record { at = self.at + 1; due = due_after self.due b } }
+    {
+        let due = if b == 2 { self.due } else { self.due + 1 };
+        Walk {
+            at: self.at + 1,
+            due,
+        }
     }
-    Walk { at: i, due: due }
+
+    // Past a letter with its operand.
+    fn past_letter(self) -> Walk
+        requires { (self.at < 2 ^ 63) × (1 ≤ self.due) }
+        ensures { result ≡ record { at = self.at + 2; due = self.due - 1 } }
+    {
+        Walk {
+            at: self.at + 2,
+            due: self.due - 1,
+        }
+    }
+
+    // Up to the next letter.
+    fn to_letter(self, q: &[u8]) -> Walk
+        requires { (1 ≤ self.due) × (self.due ≤ length (formulas (drop self.at q.now))) }
+        ensures { Reached q.now self.at self.due result.at result.due
+            × (get_or q.now result.at 0 ≡ code LETTER) }
+    {
+        let mut walk = self;
+        while q[walk.at] != 1 {
+            walk = walk.past_connective(q[walk.at]);
+        }
+        walk
+    }
 }
 
 // The position behind n formulas that stand one after the other from a position on.
@@ -269,15 +285,11 @@ pub fn skip(q: &[u8], at: usize, n: usize) -> usize
     requires { n ≤ length (formulas (drop at q.now)) }
     ensures { result ≡ at + bytes_all (take n (formulas (drop at q.now))) }
 {
-    let mut w = Walk { at: at, due: n };
-    while 0 < w.due {
-        let letter = to_letter(q, w);
-        w = Walk {
-            at: letter.at + 2,
-            due: letter.due - 1,
-        };
+    let mut walk = Walk { at, due: n };
+    while 0 < walk.due {
+        walk = walk.to_letter(q).past_letter();
     }
-    w.at
+    walk.at
 }
 
 // The position behind the formula at a position.
@@ -303,15 +315,12 @@ pub fn letters(q: &[u8], at: usize, n: usize, set: u64) -> u64
     ensures { Marks (take n (formulas (drop at q.now))) set result }
 {
     let mut all = set;
-    let mut w = Walk { at: at, due: n };
-    while 0 < w.due {
-        let l = to_letter(q, w);
-        let operand = l.at + 1;
+    let mut walk = Walk { at, due: n };
+    while 0 < walk.due {
+        let letter = walk.to_letter(q);
+        let operand = letter.at + 1;
         all = marked(all, q[operand]);
-        w = Walk {
-            at: l.at + 2,
-            due: l.due - 1,
-        };
+        walk = letter.past_letter();
     }
     all
 }
