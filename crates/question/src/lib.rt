@@ -1,7 +1,7 @@
 // Reading a question, and handing out its formulas.
 #![tactic(auto)]
 
-ghost use Rattle.std.specs.Prelude.{◌≡◌, ℕ, ◌+◌, ◌-◌, ◌^◌, ◌≤◌, ◌<◌, List, false, ◌||◌, eqb, length, take, drop, get_or, IfOk, MatchOption};
+ghost use Rattle.std.specs.Prelude.{◌≡◌, ℕ, ◌+◌, ◌-◌, ◌^◌, ◌≤◌, ◌<◌, List, false, ◌||◌, eqb, length, take, drop, get_or, IfOk, MatchResult, MatchOption};
 ghost use Rattle.calculus.specs.Fold.{Each};
 ghost use Rattle.calculus.specs.Limits;
 ghost use Rattle.calculus.specs.Limits.{LONGEST, FORMULAS};
@@ -66,12 +66,12 @@ impl Refusal {
     {
         match self {
             Refusal::TooLong => LONGEST_QUESTION,
-            Refusal::Cut(at) => at,
-            Refusal::WrongCommand(at) => at,
-            Refusal::ManyFormulas(at) => at,
-            Refusal::NoSuchLetter(at) => at,
-            Refusal::ManyConnectives(at) => at,
-            Refusal::LeftOver(at) => at,
+            Refusal::Cut(at)
+            | Refusal::WrongCommand(at)
+            | Refusal::ManyFormulas(at)
+            | Refusal::NoSuchLetter(at)
+            | Refusal::ManyConnectives(at)
+            | Refusal::LeftOver(at) => at,
         }
     }
 }
@@ -93,7 +93,7 @@ pub struct Cursor {
     pub sides: u8,
 }
 
-// The command byte of a side.
+// The command byte of a side. Commands stay bytes and have no enum: document 01's form names the match on the byte (`next`).
 pub fn head_of(side: Side) -> u8
     ensures { result ≡ code (SIDE side) }
 {
@@ -101,6 +101,13 @@ pub fn head_of(side: Side) -> u8
         Side::Left => 0x10,
         Side::Right => 0x20,
     }
+}
+
+// The byte at a place: without one the question is cut there.
+fn byte_at(q: &[u8], at: usize) -> Result<u8, Refusal>
+    ensures { MatchResult result (λ b. (at < length q.now) × (b ≡ get_or q.now at 0)) (λ r. (length q.now ≤ at) × (r ≡ Refusal.Cut at)) }
+{
+    q.get(at).copied().ok_or(Refusal::Cut(at))
 }
 
 impl Cursor {
@@ -132,17 +139,14 @@ impl Cursor {
             × Onwards q.now (self.at + 1) result }
     {
         let operand = self.at + 1;
-        if q.len() <= operand {
-            return Err(Refusal::Cut(operand));
-        }
-        if LETTERS <= q[operand] {
+        let letter = byte_at(q, operand)?;
+        if LETTERS <= letter {
             return Err(Refusal::NoSuchLetter(operand));
         }
         Ok(Cursor {
-            connectives: self.connectives,
             at: operand + 1,
             due: self.due - 1,
-            sides: self.sides,
+            ..self
         })
     }
 
@@ -165,7 +169,7 @@ impl Cursor {
             connectives: self.connectives + 1,
             at: behind,
             due: if b == 2 { self.due } else { self.due + 1 },
-            sides: self.sides,
+            ..self
         })
     }
 
@@ -183,17 +187,15 @@ impl Cursor {
             return Err(Refusal::WrongCommand(at));
         }
         let count = at + 1;
-        if q.len() <= count {
-            return Err(Refusal::Cut(count));
-        }
-        if MOST_FORMULAS < q[count] {
+        let formulas = byte_at(q, count)?;
+        if MOST_FORMULAS < formulas {
             return Err(Refusal::ManyFormulas(count));
         }
         Ok(Cursor {
-            connectives: self.connectives,
             at: count + 1,
-            due: q[count],
+            due: formulas,
             sides: self.sides - 1,
+            ..self
         })
     }
 
@@ -201,13 +203,7 @@ impl Cursor {
     fn done(self, q: &[u8]) -> bool
         ensures { result ≡ done q.now self }
     {
-        if self.at < q.len() {
-            return false;
-        }
-        if self.due != 0 {
-            return false;
-        }
-        self.sides == 0
+        q.len() <= self.at && self.due == 0 && self.sides == 0
     }
 
     // Goes on by one command with its operand: what is expected and the byte give a refusal or the next cursor.
@@ -217,10 +213,7 @@ impl Cursor {
             × Onwards q.now (self.at + 1) result }
     {
         let at = self.at;
-        if q.len() <= at {
-            return Err(Refusal::Cut(at));
-        }
-        let b = q[at];
+        let b = byte_at(q, at)?;
         let expected = self.expected();
         match expected {
             Expected::Formula(_, _) => match b {
@@ -235,7 +228,8 @@ impl Cursor {
     }
 }
 
-// A walk over commands: the position of the next, and the formulas due from there on.
+// A walk over commands: the position of the next, and the formulas due from there on. It goes from letter to letter: as one
+// match for each command, spelling took 1.1 times as long.
 #[derive(Clone, Copy)]
 pub struct Walk {
     pub at: usize,
@@ -279,6 +273,9 @@ impl Walk {
         walk
     }
 }
+
+// A formula is the question's bytes and a position, here and in the crates above: a struct of both with a ghost field (`Well`)
+// made `gekunday_width` 1.15 to 1.20 times as slow.
 
 // The position behind n formulas that stand one after the other from a position on.
 pub fn skip(q: &[u8], at: usize, n: usize) -> usize
