@@ -20,6 +20,7 @@ use Rattle.calculus.specs.Limits.{Limits, LIMITS, ROOM, TOO_LONG, CUT, WRONG_COM
 use Rattle.calculus.specs.Syntax.{Binary, NOT, two, Formula, letter, neg, join, Sequent, connectives, c, size}
 use Rattle.calculus.specs.Bytes.{Command, SIDE, LETTER, CONNECTIVE, code, command, encode, encode_all, encode_side, encode_sequent, bytes, bytes_all, question, LetteredUnder, WithinUnder, Within}
 use Rattle.calculus.specs.Reading.{Onward, refuse, onward, after, begin_under, advance, advance_under, accepted, refused, ended, go_on, read, read_under, reading, reading_under}
+use Rattle.calculus.proofs.Folds.{ones}
 use Rattle.calculus.proofs.Spelling.{command_code, command_byte, question_encode, longest}
 
 -- ---- what is within the limits is accepted
@@ -308,7 +309,3 @@ refused_place (b ∷ bs) e d at n p h = go (advance e d b) refl (λ e' d' h'. re
 
 pub within_room : (S : Sequent) → Within S → size S + c S ≤ ROOM
 within_room S w = omega (arith, w.lefts, w.rights, w.connectives, ones S.on_left, ones S.on_right)
-  where
-    ones : (xs : List Formula) → fold SUM (λ x. 1) xs ≡ length xs
-    ones [] = refl
-    ones (x ∷ xs) = omega (arith, ones xs)

@@ -274,8 +274,9 @@ impl Walk {
     }
 }
 
-// A formula is the question's bytes and a position, here and in the crates above: a struct of both with a ghost field (`Well`)
-// made `gekunday_width` 1.15 to 1.20 times as slow.
+// A formula is the question's bytes and a position, here and in the crates above. A struct of both with `Well` as its ghost field
+// made `gekunday_width` 1.15 to 1.20 times as slow; and with the slice from there on a walk adds up lengths where it now hands
+// a position on, which spelling and the refusals need besides.
 
 // The position behind n formulas that stand one after the other from a position on.
 pub fn skip(q: &[u8], at: usize, n: usize) -> usize
