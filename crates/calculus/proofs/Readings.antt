@@ -175,7 +175,7 @@ module _ (L : Limits) where
           }
 
   not_refused : {Q : Type 0} (n at : ℕ) → refused n at ≡ accepted → Q
-  not_refused n at e = let z : ◌≡◌ {A = ℕ} 0 1 = cc in absurd (omega arith)
+  not_refused n at e = absurd cc
 
   -- one byte, given what holds of the bytes after it
   module _ (b : ℕ) (bs : List ℕ) (at : ℕ) (ih : (e : Expected) (d : ℕ) → d ≤ L.connectives → read_under L bs e d (suc at) ≡ accepted → Rest e d bs) where
@@ -286,7 +286,7 @@ cut_here e d at n p h = inl (go e h)
     go (Count s) h = (cc, cc (add-zero at))
     go (Due s m) h = (cc, cc (add-zero at))
     go (Operand s m) h = (cc, cc (add-zero at))
-    go End h = let z : ◌≡◌ {A = ℕ} 0 1 = cc in absurd (omega arith)
+    go End h = absurd cc
 
 pub refused_place : (bs : List ℕ) (e : Expected) (d at n p : ℕ) → read bs e d at ≡ refused n p → Refusal bs e d at n p
 refused_place [] e d at n p h = cut_here e d at n p h

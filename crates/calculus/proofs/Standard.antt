@@ -121,7 +121,7 @@ stands_each Q [] x h e = absurd (false≢true e)
 stands_each Q (y ∷ ys) x h e = or_elim (same x y) (stands x ys) e (λ a. rw (same_eq x y a) h.0) (λ a. stands_each Q ys x h.1 a)
 
 not_behind : (x : Formula) (ys : List Formula) → Each (λ y. compare (encode x) (encode y) ≡ Less) ys → stands x ys ≡ false
-not_behind x ys h = not_so (stands x ys) (λ e. let l = stands_each (λ y. compare (encode x) (encode y) ≡ Less) ys x h e in let z : ◌≡◌ {A = ℕ} 0 1 = cc (l, compare_self (encode x)) in omega arith)
+not_behind x ys h = not_so (stands x ys) (λ e. let l = stands_each (λ y. compare (encode x) (encode y) ≡ Less) ys x h e in cc (l, compare_self (encode x)))
 
 -- x, below all behind it, does not stand in a list of greater ones
 not_there : (x y : Formula) (ys : List Formula) → compare (encode x) (encode y) ≡ Less → Each (λ z. compare (encode y) (encode z) ≡ Less) ys → stands x (y ∷ ys) ≡ false
