@@ -45,7 +45,7 @@ pub enum Refusal {
 }
 
 impl Refusal {
-    // Document 01's number.
+    // Document 01's number, which the C interface hands on.
     pub fn number(self) -> u32
         ensures { result ≡ number_of self }
     {
@@ -76,23 +76,6 @@ impl Refusal {
     }
 }
 
-// An accepted question.
-#[derive(Clone, Copy)]
-pub struct Question<'a> {
-    pub bytes: &'a [u8],
-    pub ghost accepted: { reading bytes.now ≡ accepted },
-}
-
-// Where the reader is: the connectives so far, the place of the next byte, the formulas due there, and the sides whose
-// command is to come.
-#[derive(Clone, Copy)]
-pub struct Cursor {
-    pub connectives: u8,
-    pub at: usize,
-    pub due: u8,
-    pub sides: u8,
-}
-
 // The command byte of a side. Commands stay bytes and have no enum: document 01's form names the match on the byte (`next`).
 pub fn head_of(side: Side) -> u8
     ensures { result ≡ code (SIDE side) }
@@ -108,6 +91,16 @@ fn byte_at(q: &[u8], at: usize) -> Result<u8, Refusal>
     ensures { MatchResult result (λ b. (at < length q.now) × (b ≡ get_or q.now at 0)) (λ r. (length q.now ≤ at) × (r ≡ Refusal.Cut at)) }
 {
     q.get(at).copied().ok_or(Refusal::Cut(at))
+}
+
+// Where the reader is: the connectives so far, the place of the next byte, the formulas due there, and the sides whose
+// command is to come.
+#[derive(Clone, Copy)]
+pub struct Cursor {
+    pub connectives: u8,
+    pub at: usize,
+    pub due: u8,
+    pub sides: u8,
 }
 
 impl Cursor {
@@ -228,6 +221,71 @@ impl Cursor {
     }
 }
 
+// An accepted question.
+#[derive(Clone, Copy)]
+pub struct Question<'a> {
+    pub bytes: &'a [u8],
+    pub ghost accepted: { reading bytes.now ≡ accepted },
+}
+
+impl<'a> Question<'a> {
+    // Reads a question: accepted, or the first refusal that is met.
+    pub fn read(q: &'a [u8]) -> Result<Question<'a>, Refusal>
+        ensures reads { reading_of result ≡ reading q.now }
+        ensures bytes { IfOk result (λ a. a.bytes.now ≡ q.now) }
+        ensures own { IfOk result (λ a. a.bytes ≡ q.entry) }
+    {
+        if LONGEST_QUESTION < q.len() {
+            return Err(Refusal::TooLong);
+        }
+        let mut cursor = Cursor {
+            connectives: 0,
+            at: 0,
+            due: 0,
+            sides: 2,
+        };
+        while !cursor.done(q) {
+            cursor = cursor.next(q)?;
+        }
+        Ok(Question { bytes: q })
+    }
+
+    // Where the formulas of a side start.
+    pub fn start(self, side: Side) -> usize
+        ensures { result ≡ side_start side (question self.entry.bytes.now) }
+    {
+        match side {
+            Side::Left => 2,
+            Side::Right => skip(self.bytes, 2, usize::from(self.bytes[1])) + 2,
+        }
+    }
+
+    // How many formulas a side has, where that side starts.
+    pub fn count(self, side: Side, start: usize) -> usize
+        requires { start ≡ side_start side (question self.bytes.now) }
+        ensures { result ≡ length (on_side side (question self.entry.bytes.now)) }
+    {
+        usize::from(self.bytes[start - 1])
+    }
+
+    // Which bytes are the formula at a place of a side, if there is one.
+    fn part(self, side: Side, place: usize) -> Option<Part>
+        ensures { MatchOption result (length (on_side side (question self.entry.bytes.now)) ≤ place)
+            (λ p. (place < length (on_side side (question self.entry.bytes.now)))
+            × (p ≡ formula_part self.entry.bytes.now side place)) }
+    {
+        let start = self.start(side);
+        if self.count(side, start) <= place {
+            return None;
+        }
+        let at = skip(self.bytes, start, place);
+        Some(Part {
+            start: at,
+            count: end_of(self.bytes, at) - at,
+        })
+    }
+}
+
 // A walk over commands: the position of the next, and the formulas due from there on. It goes from letter to letter: as one
 // match for each command, spelling took 1.1 times as long.
 #[derive(Clone, Copy)]
@@ -323,65 +381,8 @@ pub fn letters(q: &[u8], at: usize, n: usize, set: u64) -> u64
     all
 }
 
-impl<'a> Question<'a> {
-    // Reads a question: accepted, or the first refusal that is met.
-    pub fn read(q: &'a [u8]) -> Result<Question<'a>, Refusal>
-        ensures reads { reading_of result ≡ reading q.now }
-        ensures bytes { IfOk result (λ a. a.bytes.now ≡ q.now) }
-        ensures own { IfOk result (λ a. a.bytes ≡ q.entry) }
-    {
-        if LONGEST_QUESTION < q.len() {
-            return Err(Refusal::TooLong);
-        }
-        let mut cursor = Cursor {
-            connectives: 0,
-            at: 0,
-            due: 0,
-            sides: 2,
-        };
-        while !cursor.done(q) {
-            cursor = cursor.next(q)?;
-        }
-        Ok(Question { bytes: q })
-    }
-
-    // Where the formulas of a side start.
-    pub fn start(self, side: Side) -> usize
-        ensures { result ≡ side_start side (question self.entry.bytes.now) }
-    {
-        match side {
-            Side::Left => 2,
-            Side::Right => skip(self.bytes, 2, usize::from(self.bytes[1])) + 2,
-        }
-    }
-
-    // How many formulas a side has, where that side starts.
-    pub fn count(self, side: Side, start: usize) -> usize
-        requires { start ≡ side_start side (question self.bytes.now) }
-        ensures { result ≡ length (on_side side (question self.entry.bytes.now)) }
-    {
-        usize::from(self.bytes[start - 1])
-    }
-
-    // Which bytes are the formula at a place of a side, if there is one.
-    fn part(self, side: Side, place: usize) -> Option<Part>
-        ensures { MatchOption result (length (on_side side (question self.entry.bytes.now)) ≤ place)
-            (λ p. (place < length (on_side side (question self.entry.bytes.now)))
-            × (p ≡ formula_part self.entry.bytes.now side place)) }
-    {
-        let start = self.start(side);
-        if self.count(side, start) <= place {
-            return None;
-        }
-        let at = skip(self.bytes, start, place);
-        Some(Part {
-            start: at,
-            count: end_of(self.bytes, at) - at,
-        })
-    }
-}
-
-// Which bytes of the question are the formula at a place of a side: none where it is refused or has no such place.
+// Which bytes of the question are the formula at a place of a side: none where it is refused or has no such place, which is the
+// form that document 01 names.
 pub fn formula_part(q: &[u8], side: Side, place: usize) -> Part
     ensures { result ≡ formula_part q.now side place }
 {
