@@ -94,7 +94,8 @@ fn byte_at(q: &[u8], at: usize) -> Result<u8, Refusal>
 }
 
 // Where the reader is: the connectives so far, the place of the next byte, the formulas due there, and the sides whose
-// command is to come.
+// command is to come. The bytes and `Standing` stay outside: no struct with a ghost field is made by `..self`, so that each step
+// would write out all fields.
 #[derive(Clone, Copy)]
 pub struct Cursor {
     pub connectives: u8,
