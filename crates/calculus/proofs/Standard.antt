@@ -5,16 +5,18 @@ use mathlib.Core.Path.{◌≡◌, refl, sym, ap, ◌∙◌, fun_ext}
 use mathlib.Core.Logic.{◌↔◌}
 use mathlib.Core.Bool.{Bool, true, false, not, ◌||◌, or_assoc, or_comm, false≢true}
 use mathlib.Core.List.{List, [], ◌∷◌, ◌++◌, map}
-use Prim.Native.Nat.{ℕ, ◌+◌, ◌≤◌, ◌<◌}
-use native.Mathlib.Decide.{dec_lt}
+use Prim.Native.Nat.{ℕ, ◌+◌, ◌≤◌}
 use native.Mathlib.Omega.{arith}
 use lib.Dec.{ltb}
 use lib.ListN.{length, length-append}
-use borrow.Author.Tests.{lt-ltb, le-ltb}
 use Rattle.calculus.specs.declared.Side.{Side}
 use Rattle.calculus.specs.declared.Side.TheVariants.{Left, Right}
-use Rattle.calculus.specs.declared.Comparison.{Comparison}
-use Rattle.calculus.specs.declared.Comparison.TheVariants.{Less, Equal, Greater}
+use Rattle.std.specs.declared.cmp.Ordering.{Ordering}
+use Rattle.std.specs.declared.cmp.Ordering.TheVariants.{Less, Equal, Greater}
+use Rattle.std.specs.Ordering.{ordering_reverse}
+use Rattle.std.specs.Cmp.{tied_itself}
+use Rattle.std.proofs.lemmas.Cmp.{nat_list_cmp_total}
+use Rattle.std.proofs.lemmas.Map.Lookups.{exact_bytes}
 use Rattle.calculus.specs.Fold.{fold, ANY, SUM, Each}
 use Rattle.calculus.specs.Limits.{Limits, VARIED}
 use Rattle.calculus.specs.Syntax.{Formula, Sequent, on_side, connectives}
@@ -22,95 +24,25 @@ use Rattle.calculus.specs.Bytes.{encode, encode_all, encode_side, encode_sequent
 use Rattle.calculus.specs.Reading.{accepted, reading_under}
 use Rattle.calculus.specs.Truth.{says, truth, Valid}
 use Rattle.calculus.specs.States.{occurs, occurs_in, from, filter, letters_under, states_over, refuting_over}
-use Rattle.calculus.specs.Standard.{compare_byte, firstly, compare, place, insert, arranged, standard, spelling, stands, SameSets, AscendsByBytes}
+use Rattle.calculus.specs.Standard.{compare, place, insert, arranged, standard, spelling, stands, SameSets, AscendsByBytes}
 use Rattle.calculus.specs.Reply.{fill_out, list_out, list_under}
 use Rattle.calculus.proofs.Folds.{or_elim, not_so, each}
 use Rattle.calculus.proofs.Spelling.{same_eq, same_self, encode_injective, question_encode}
 use Rattle.calculus.proofs.Readings.{question_under, exactly_under}
 
--- ---- bytes compared are ordered
+-- ---- bytes compared are ordered: the library's laws
 
-abbrev turned : Comparison → Comparison
-turned Less = Greater
-turned Equal = Equal
-turned Greater = Less
-
--- what each outcome means of two bytes
-abbrev Told : ℕ → ℕ → Comparison → Type 0
-Told a b Less = a < b
-Told a b Equal = a ≡ b
-Told a b Greater = b < a
-
-byte_less : (a b : ℕ) → a < b → compare_byte a b ≡ Less
-byte_less a b h = rw (lt-ltb a b h)
-
-byte_greater : (a b : ℕ) → b < a → compare_byte a b ≡ Greater
-byte_greater a b h = rw (le-ltb a b (omega arith), lt-ltb b a h)
-
-byte_equal : (a b : ℕ) → a ≡ b → compare_byte a b ≡ Equal
-byte_equal a b h = rw (le-ltb a b (omega arith), le-ltb b a (omega arith))
-
-byte_told : (a b : ℕ) → Told a b (compare_byte a b)
-byte_told a b = go (dec_lt a b) (dec_lt b a)
-  where
-    go : Dec (a < b) → Dec (b < a) → Told a b (compare_byte a b)
-    go (yes h) k = rw (byte_less a b h) h
-    go (no h) (yes k) = rw (byte_greater a b k) k
-    go (no h) (no k) =
-        let z : a ≡ b = omega arith in
-        rw (byte_equal a b z) z
-
-byte_turned : (a b : ℕ) → compare_byte b a ≡ turned (compare_byte a b)
-byte_turned a b = go (compare_byte a b) (byte_told a b)
-  where
-    go : (c : Comparison) → Told a b c → compare_byte b a ≡ turned c
-    go Less h = byte_greater b a h
-    go Equal h = byte_equal b a (sym h)
-    go Greater h = byte_less b a h
-
-turned_firstly : (c r : Comparison) → firstly (turned c) (turned r) ≡ turned (firstly c r)
-turned_firstly Less r = refl
-turned_firstly Equal r = refl
-turned_firstly Greater r = refl
-
-pub compare_turned : (l m : List ℕ) → compare m l ≡ turned (compare l m)
-compare_turned [] [] = refl
-compare_turned [] (b ∷ m) = refl
-compare_turned (a ∷ l) [] = refl
-compare_turned (a ∷ l) (b ∷ m) = rw (byte_turned a b, compare_turned l m) (turned_firstly (compare_byte a b) (compare l m))
+pub compare_turned : (l m : List ℕ) → compare m l ≡ ordering_reverse (compare l m)
+compare_turned l m = nat_list_cmp_total.antisymm m l
 
 pub compare_self : (l : List ℕ) → compare l l ≡ Equal
-compare_self [] = refl
-compare_self (a ∷ l) = rw (byte_equal a a refl) (compare_self l)
+compare_self = tied_itself nat_list_cmp_total
 
 pub compare_equal : (l m : List ℕ) → compare l m ≡ Equal → l ≡ m
-compare_equal [] [] e = refl
-compare_equal [] (b ∷ m) e = let z : ◌≡◌ {A = ℕ} 0 1 = cc e in absurd (omega arith)
-compare_equal (a ∷ l) [] e = let z : ◌≡◌ {A = ℕ} 0 1 = cc e in absurd (omega arith)
-compare_equal (a ∷ l) (b ∷ m) e = go (compare_byte a b) (byte_told a b) e (compare_equal l m)
-  where
-    go : (c : Comparison) → Told a b c → firstly c (compare l m) ≡ Equal → (compare l m ≡ Equal → l ≡ m) → a ∷ l ≡ b ∷ m
-    go Less t e ih = let z : ◌≡◌ {A = ℕ} 0 1 = cc e in absurd (omega arith)
-    go Equal t e ih = rw (t, ih e)
-    go Greater t e ih = let z : ◌≡◌ {A = ℕ} 0 1 = cc e in absurd (omega arith)
+compare_equal = exact_bytes
 
 pub compare_less : (l m n : List ℕ) → compare l m ≡ Less → compare m n ≡ Less → compare l n ≡ Less
-compare_less [] [] n e f = f
-compare_less [] (b ∷ m) [] e f = let z : ◌≡◌ {A = ℕ} 0 1 = cc f in absurd (omega arith)
-compare_less [] (b ∷ m) (d ∷ n) e f = refl
-compare_less (a ∷ l) [] n e f = let z : ◌≡◌ {A = ℕ} 0 1 = cc e in absurd (omega arith)
-compare_less (a ∷ l) (b ∷ m) [] e f = f
-compare_less (a ∷ l) (b ∷ m) (d ∷ n) e f = go (compare_byte a b) (byte_told a b) (compare_byte b d) (byte_told b d) e f (compare_less l m n)
-  where
-    go : (c : Comparison) → Told a b c → (k : Comparison) → Told b d k → firstly c (compare l m) ≡ Less → firstly k (compare m n) ≡ Less
-        → (compare l m ≡ Less → compare m n ≡ Less → compare l n ≡ Less) → firstly (compare_byte a d) (compare l n) ≡ Less
-    go Greater t k u e f ih = let z : ◌≡◌ {A = ℕ} 0 1 = cc e in absurd (omega arith)
-    go Less t Greater u e f ih = let z : ◌≡◌ {A = ℕ} 0 1 = cc f in absurd (omega arith)
-    go Equal t Greater u e f ih = let z : ◌≡◌ {A = ℕ} 0 1 = cc f in absurd (omega arith)
-    go Less t Less u e f ih = rw (byte_less a d (omega arith))
-    go Less t Equal u e f ih = rw (byte_less a d (omega arith))
-    go Equal t Less u e f ih = rw (byte_less a d (omega arith))
-    go Equal t Equal u e f ih = rw (byte_equal a d (omega arith)) (ih e f)
+compare_less = nat_list_cmp_total.trans
 
 -- ---- a formula in its place
 
@@ -119,7 +51,7 @@ pub map_insert : {X Y : Type 0} (f : X → Y) (spelt : Y → List ℕ) (x : X) (
 map_insert f spelt x [] = refl
 map_insert {X} {Y} f spelt x (y ∷ ys) = go (compare (spelt (f x)) (spelt (f y))) (map_insert f spelt x ys)
   where
-    go : (c : Comparison) → map f (insert (λ z. spelt (f z)) x ys) ≡ insert spelt (f x) (map f ys)
+    go : (c : Ordering) → map f (insert (λ z. spelt (f z)) x ys) ≡ insert spelt (f x) (map f ys)
         → map f (place c x y ys (insert (λ z. spelt (f z)) x ys)) ≡ place c (f x) (f y) (map f ys) (insert spelt (f x) (map f ys))
     go Less ih = refl
     go Equal ih = refl
@@ -129,7 +61,7 @@ pub each_insert : {X : Type 0} (Q : X → Type 0) (spelt : X → List ℕ) (x : 
 each_insert Q spelt x [] q h = (q, tt)
 each_insert Q spelt x (y ∷ ys) q h = go (compare (spelt x) (spelt y)) (each_insert Q spelt x ys q h.1)
   where
-    go : (c : Comparison) → Each Q (insert spelt x ys) → Each Q (place c x y ys (insert spelt x ys))
+    go : (c : Ordering) → Each Q (insert spelt x ys) → Each Q (place c x y ys (insert spelt x ys))
     go Less ih = (q, h)
     go Equal ih = h
     go Greater ih = (h.0, ih)
@@ -143,7 +75,7 @@ any_insert : (g : Formula → Bool) (x : Formula) (ys : List Formula) → fold A
 any_insert g x [] = refl
 any_insert g x (y ∷ ys) = go (compare (encode x) (encode y)) refl (any_insert g x ys)
   where
-    go : (c : Comparison) → compare (encode x) (encode y) ≡ c → fold ANY g (insert encode x ys) ≡ (g x || fold ANY g ys)
+    go : (c : Ordering) → compare (encode x) (encode y) ≡ c → fold ANY g (insert encode x ys) ≡ (g x || fold ANY g ys)
         → fold ANY g (place c x y ys (insert encode x ys)) ≡ (g x || (g y || fold ANY g ys))
     go Less e ih = refl
     go Equal e ih = rw (encode_injective x y (compare_equal (encode x) (encode y) e)) (or_again (g y) (fold ANY g ys))
@@ -158,7 +90,7 @@ sum_insert : (f : Formula → ℕ) (x : Formula) (ys : List Formula) → fold SU
 sum_insert f x [] = omega arith
 sum_insert f x (y ∷ ys) = go (compare (encode x) (encode y)) (sum_insert f x ys)
   where
-    go : (c : Comparison) → fold SUM f (insert encode x ys) ≤ f x + fold SUM f ys → fold SUM f (place c x y ys (insert encode x ys)) ≤ f x + (f y + fold SUM f ys)
+    go : (c : Ordering) → fold SUM f (insert encode x ys) ≤ f x + fold SUM f ys → fold SUM f (place c x y ys (insert encode x ys)) ≤ f x + (f y + fold SUM f ys)
     go Less ih = omega arith
     go Equal ih = omega arith
     go Greater ih = omega arith
@@ -177,7 +109,7 @@ ascends_insert : (x : Formula) (ys : List Formula) → AscendsByBytes ys → Asc
 ascends_insert x [] h = (tt, tt)
 ascends_insert x (y ∷ ys) h = go (compare (encode x) (encode y)) refl (ascends_insert x ys h.1)
   where
-    go : (c : Comparison) → compare (encode x) (encode y) ≡ c → AscendsByBytes (insert encode x ys) → AscendsByBytes (place c x y ys (insert encode x ys))
+    go : (c : Ordering) → compare (encode x) (encode y) ≡ c → AscendsByBytes (insert encode x ys) → AscendsByBytes (place c x y ys (insert encode x ys))
     go Less e ih = ((e, each (λ z. compare (encode y) (encode z) ≡ Less) (λ z. compare (encode x) (encode z) ≡ Less) (λ z l. compare_less (encode x) (encode y) (encode z) e l) ys h.0), h)
     go Equal e ih = h
     go Greater e ih = (each_insert (λ z. compare (encode y) (encode z) ≡ Less) encode x ys (compare_turned (encode x) (encode y) ∙ rw e) h.0, ih)
@@ -215,7 +147,7 @@ only [] (y ∷ ys) a b h = absurd (false≢true (h y ∙ here y ys))
 only (x ∷ xs) [] a b h = absurd (false≢true (sym (h x) ∙ here x xs))
 only (x ∷ xs) (y ∷ ys) a b h = go (compare (encode x) (encode y)) refl (only xs ys a.1 b.1)
   where
-    go : (c : Comparison) → compare (encode x) (encode y) ≡ c → (((z : Formula) → stands z xs ≡ stands z ys) → xs ≡ ys) → x ∷ xs ≡ y ∷ ys
+    go : (c : Ordering) → compare (encode x) (encode y) ≡ c → (((z : Formula) → stands z xs ≡ stands z ys) → xs ≡ ys) → x ∷ xs ≡ y ∷ ys
     go Less e ih = absurd (false≢true (sym (not_there x y ys e b.0) ∙ (sym (h x) ∙ here x xs)))
     go Greater e ih = absurd (false≢true (sym (not_there y x xs (compare_turned (encode x) (encode y) ∙ rw e) a.0) ∙ (h y ∙ here y ys)))
     go Equal e ih =

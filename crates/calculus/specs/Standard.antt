@@ -1,31 +1,20 @@
 -- "One spelling for the same question" (document 02, e): bytes compared, formulas arranged by them, and the standard spelling.
-use Rattle.std.specs.Prelude.{◌≡◌, Bool, true, ◌↔◌, List, [], ◌∷◌, ℕ, ltb}
+use Rattle.std.specs.Prelude.{◌≡◌, Bool, true, ◌↔◌, List, [], ◌∷◌, ℕ}
+use Rattle.std.specs.declared.cmp.Ordering.{Ordering}
+use Rattle.std.specs.declared.cmp.Ordering.TheVariants.{Less, Equal, Greater}
+use Rattle.std.specs.Ordering.{nat_cmp}
+use Rattle.std.specs.Cmp.Lexicographic.{slice_cmp}
 use Rattle.calculus.specs.declared.Side.{Side}
-use Rattle.calculus.specs.declared.Comparison.{Comparison}
-use Rattle.calculus.specs.declared.Comparison.TheVariants.{Less, Equal, Greater}
-use Rattle.calculus.specs.Fold.{fold, ANY, Each, choose}
+use Rattle.calculus.specs.Fold.{fold, ANY, Each}
 use Rattle.calculus.specs.Syntax.{Formula, Sequent, on_side}
 use Rattle.calculus.specs.Bytes.{encode, same, encode_sequent}
 
--- one byte and another
-abbrev pub compare_byte : ℕ → ℕ → Comparison
-compare_byte a b = choose (ltb a b) Less (choose (ltb b a) Greater Equal)
-
--- the first two that differ decide
-abbrev pub firstly : Comparison → Comparison → Comparison
-firstly Less r = Less
-firstly Equal r = r
-firstly Greater r = Greater
-
 -- "bytes compared from the first"; where one ends and the other goes on, it is less
-abbrev pub compare : List ℕ → List ℕ → Comparison
-compare [] [] = Equal
-compare [] (b ∷ ys) = Less
-compare (a ∷ xs) [] = Greater
-compare (a ∷ xs) (b ∷ ys) = firstly (compare_byte a b) (compare xs ys)
+abbrev pub compare : List ℕ → List ℕ → Ordering
+compare = slice_cmp nat_cmp
 
 -- x as it stands to y, the first of a list: before it, left out because it is there, or among the rest
-abbrev pub place : {X : Type 0} → Comparison → X → X → List X → List X → List X
+abbrev pub place : {X : Type 0} → Ordering → X → X → List X → List X → List X
 place Less x y ys rest = x ∷ y ∷ ys
 place Equal x y ys rest = y ∷ ys
 place Greater x y ys rest = y ∷ rest

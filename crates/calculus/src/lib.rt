@@ -63,18 +63,10 @@ pub struct Verdict {
 }
 
 // A part of a question's bytes.
-#[derive(Clone, Copy)]
+#[derive(Clone, Copy, Default)]
 pub struct Part {
     pub start: usize,
     pub count: usize,
-}
-
-// How the bytes of one formula stand to those of another.
-#[derive(Clone, Copy)]
-pub enum Comparison {
-    Less,
-    Equal,
-    Greater,
 }
 
 pub fn wide(b: u8) -> usize

@@ -8,6 +8,9 @@ use native.Mathlib.Decide.{dec_lt}
 use native.Mathlib.Omega.{arith}
 use lib.ListN.{length, take, drop, get_or, get_elem?, length-append, length-drop}
 use lib.Seq.{get_or-append-add, take-append_seam, take-length}
+use Rattle.std.specs.Prelude.{Option, Some, None, MatchOption}
+use Rattle.std.specs.Option.{UnwrapsOrElse}
+use Rattle.calculus.specs.declared.Part.{Part}
 use Rattle.calculus.specs.declared.Side.{Side}
 use Rattle.calculus.specs.declared.Side.TheVariants.{Left, Right}
 use Rattle.calculus.specs.Fold.{Each}
@@ -17,9 +20,6 @@ use Rattle.calculus.specs.Reading.{Reading, accepted, refused, reading}
 use Rattle.calculus.specs.Reply.{formula_part, formula_bytes}
 use Rattle.calculus.proofs.Spelling.{spelt}
 use Rattle.calculus.proofs.Readings.{accepted_question}
-use Rattle.question.specs.declared.Reading.{Reading as Answer}
-use Rattle.question.specs.declared.Reading.TheVariants.{Accepted, Refused}
-use Rattle.question.specs.Answers.{number_of, place_of, reading_of}
 use Rattle.question.specs.Positions.{Well, first_of, formula_at, part_bytes}
 use Rattle.question.proofs.Walks.{skip_formulas, end_inside}
 
@@ -145,7 +145,12 @@ handed q s i = go (reading q) refl
     go accepted e = handed_accepted q e s i (dec_lt i (length (on_side s (question q))))
     go (refused n p) e = record { inside = rw e (omega arith); own = rw e }
 
--- by the code's answer
-pub part_refused_by : (q : List ℕ) (s : Side) (i : ℕ) (r : Answer) → reading_of r ≡ reading q → (r ≡ Accepted → ⊥) → record { start = 0; count = 0 } ≡ formula_part q s i
-part_refused_by q s i Accepted e n = absurd (n refl)
-part_refused_by q s i (Refused w) e n = part_refused q s i (number_of w) (place_of w) (sym e)
+-- the part, or else the empty one
+pub part_or_none : (q : List ℕ) → reading q ≡ accepted → (s : Side) (i : ℕ) (o : Option Part) (P : Part → Type 0) (r : Part) → UnwrapsOrElse o P r
+    → MatchOption o (length (on_side s (question q)) ≤ i) (λ p. (i < length (on_side s (question q))) × (p ≡ formula_part q s i))
+    → ((p : Part) → P p → (p.start ≡ 0) × (p.count ≡ 0))
+    → r ≡ formula_part q s i
+part_or_none q a s i None P r g h d =
+    let e : r ≡ record { start = 0; count = 0 } = λ j. record { start = (d r g).0 j; count = (d r g).1 j } in
+    e ∙ part_none q a s i h
+part_or_none q a s i (Some p) P r g h d = g ∙ h.1

@@ -1,18 +1,14 @@
 -- Document 01's number and place of each answer of the reader.
-use Rattle.std.specs.Prelude.{◌≡◌, Bool, false, List, ℕ, zero, suc, ◌+◌, ◌≤◌, eqb, leb, length, drop}
+use Rattle.std.specs.Prelude.{◌≡◌, Bool, false, List, ℕ, zero, suc, ◌+◌, ◌≤◌, eqb, leb, length, drop, Result, Ok, Err}
 use Rattle.calculus.specs.declared.Side.TheVariants.{Left, Right}
 use Rattle.calculus.specs.declared.Expected.{Expected}
 use Rattle.calculus.specs.declared.Expected.TheVariants.{Head}
 use Rattle.calculus.specs.Fold.{choose}
 use Rattle.calculus.specs.Limits.{LONGEST, FORMULAS, CONNECTIVES, TOO_LONG, CUT, WRONG_COMMAND, MANY_FORMULAS, NO_SUCH_LETTER, MANY_CONNECTIVES, LEFT_OVER}
-use Rattle.calculus.specs.Reading.{Reading as Result, accepted, refused, after, read}
+use Rattle.calculus.specs.Reading.{Reading, accepted, refused, after, read}
 use Rattle.question.specs.declared.Refusal.{Refusal}
 use Rattle.question.specs.declared.Refusal.TheVariants.{TooLong, Cut, WrongCommand, ManyFormulas, NoSuchLetter, ManyConnectives, LeftOver}
-use Rattle.question.specs.declared.Reading.{Reading}
-use Rattle.question.specs.declared.Reading.TheVariants.{Accepted, Refused}
 use Rattle.question.specs.declared.Cursor.{Cursor}
-use Rattle.question.specs.declared.Step.{Step}
-use Rattle.question.specs.declared.Step.TheVariants.{Next, Stop}
 
 abbrev pub number_of : Refusal → ℕ
 number_of TooLong = TOO_LONG
@@ -32,9 +28,10 @@ place_of (NoSuchLetter at) = at
 place_of (ManyConnectives at) = at
 place_of (LeftOver at) = at
 
-abbrev pub reading_of : Reading → Result
-reading_of Accepted = accepted
-reading_of (Refused r) = refused (number_of r) (place_of r)
+-- the reader's answer, whatever it gives with an accepted question
+abbrev pub reading_of : {A : Type 0} → Result A Refusal → Reading
+reading_of (Ok a) = accepted
+reading_of (Err r) = refused (number_of r) (place_of r)
 
 -- ---- from a cursor on
 
@@ -62,15 +59,15 @@ pub record Standing (q : List ℕ) (k : Cursor) : Type 0 where
   pub first : 2 ≤ k.sides → k.due ≡ 0
 
 -- a next cursor is one, and not before a place
-abbrev pub Onwards : List ℕ → ℕ → Step → Type 0
-Onwards q at (Next k) = Standing q k × (at ≤ k.at)
-Onwards q at (Stop r) = Unit {0}
+abbrev pub Onwards : List ℕ → ℕ → Result Cursor Refusal → Type 0
+Onwards q at (Ok k) = Standing q k × (at ≤ k.at)
+Onwards q at (Err r) = Unit {0}
 
 -- the reading from a cursor on
-abbrev pub read_from : List ℕ → Cursor → Result
+abbrev pub read_from : List ℕ → Cursor → Reading
 read_from q k = read (drop k.at q) (expected_of k) k.connectives k.at
 
 -- the reading after a step
-abbrev pub steps : List ℕ → Step → Result
-steps q (Next k) = read_from q k
-steps q (Stop r) = refused (number_of r) (place_of r)
+abbrev pub steps : List ℕ → Result Cursor Refusal → Reading
+steps q (Ok k) = read_from q k
+steps q (Err r) = refused (number_of r) (place_of r)

@@ -1,7 +1,7 @@
 // Reading a question, and handing out its formulas.
 #![tactic(auto)]
 
-ghost use Rattle.std.specs.Prelude.{◌≡◌, ℕ, ◌+◌, ◌-◌, ◌^◌, ◌≤◌, ◌<◌, List, false, ◌||◌, eqb, length, take, drop, get_or};
+ghost use Rattle.std.specs.Prelude.{◌≡◌, ℕ, ◌+◌, ◌-◌, ◌^◌, ◌≤◌, ◌<◌, List, false, ◌||◌, eqb, length, take, drop, get_or, IfOk, MatchOption};
 ghost use Rattle.calculus.specs.Fold.{Each};
 ghost use Rattle.calculus.specs.Limits;
 ghost use Rattle.calculus.specs.Limits.{LONGEST, FORMULAS};
@@ -15,7 +15,7 @@ ghost use Rattle.question.specs.Answers.{number_of, place_of, reading_of};
 ghost use Rattle.question.specs.Answers.{expected_of, done, Standing, Onwards, read_from, steps};
 ghost use Rattle.question.specs.Positions.{Well, end_of, due_after, Reached, Marks, part_bytes, part_at};
 
-use calculus::{Expected, Part, Side, wide};
+use calculus::{Expected, Part, Side};
 
 // The limits of document 01.
 pub const LONGEST_QUESTION: usize = 212;
@@ -76,10 +76,11 @@ impl Refusal {
     }
 }
 
+// An accepted question.
 #[derive(Clone, Copy)]
-pub enum Reading {
-    Accepted,
-    Refused(Refusal),
+pub struct Question<'a> {
+    pub bytes: &'a [u8],
+    pub ghost accepted: { reading bytes.now ≡ accepted },
 }
 
 // Where the reader is: the connectives so far, the place of the next byte, the formulas due there, and the sides whose
@@ -90,12 +91,6 @@ pub struct Cursor {
     pub at: usize,
     pub due: u8,
     pub sides: u8,
-}
-
-#[derive(Clone, Copy)]
-pub enum Step {
-    Next(Cursor),
-    Stop(Refusal),
 }
 
 // The command byte of a side.
@@ -117,7 +112,7 @@ impl Cursor {
         let sides = self.sides;
         if 0 < self.due {
             let side = if sides == 0 { Side::Right } else { Side::Left };
-            return Expected::Formula(side, wide(self.due - 1));
+            return Expected::Formula(side, usize::from(self.due - 1));
         }
         match sides {
             0 => Expected::End,
@@ -127,7 +122,7 @@ impl Cursor {
     }
 
     // The letter at the cursor, with its operand.
-    fn letter(self, q: &[u8]) -> Step
+    fn letter(self, q: &[u8]) -> Result<Cursor, Refusal>
         requires { Standing q.now self
             × (self.at < length q.now)
             × (get_or q.now self.at 0 ≡ code LETTER)
@@ -138,12 +133,12 @@ impl Cursor {
     {
         let operand = self.at + 1;
         if q.len() <= operand {
-            return Step::Stop(Refusal::Cut(operand));
+            return Err(Refusal::Cut(operand));
         }
         if LETTERS <= q[operand] {
-            return Step::Stop(Refusal::NoSuchLetter(operand));
+            return Err(Refusal::NoSuchLetter(operand));
         }
-        Step::Next(Cursor {
+        Ok(Cursor {
             connectives: self.connectives,
             at: operand + 1,
             due: self.due - 1,
@@ -152,7 +147,7 @@ impl Cursor {
     }
 
     // The connective b at the cursor.
-    fn connective(self, b: u8) -> Step
+    fn connective(self, b: u8) -> Result<Cursor, Refusal>
         requires { (self.at ≤ LONGEST)
             × (1 ≤ self.due)
             × (self.due ≤ FORMULAS + self.connectives)
@@ -164,9 +159,9 @@ impl Cursor {
     {
         let behind = self.at + 1;
         if MOST_CONNECTIVES <= self.connectives {
-            return Step::Stop(Refusal::ManyConnectives(self.at));
+            return Err(Refusal::ManyConnectives(self.at));
         }
-        Step::Next(Cursor {
+        Ok(Cursor {
             connectives: self.connectives + 1,
             at: behind,
             due: if b == 2 { self.due } else { self.due + 1 },
@@ -175,7 +170,7 @@ impl Cursor {
     }
 
     // The byte b at the cursor where a side's command is expected, with its count.
-    fn head(self, q: &[u8], b: u8, side: Side) -> Step
+    fn head(self, q: &[u8], b: u8, side: Side) -> Result<Cursor, Refusal>
         requires { Standing q.now self
             × (self.at < length q.now)
             × (get_or q.now self.at 0 ≡ b)
@@ -185,16 +180,16 @@ impl Cursor {
     {
         let at = self.at;
         if b != head_of(side) {
-            return Step::Stop(Refusal::WrongCommand(at));
+            return Err(Refusal::WrongCommand(at));
         }
         let count = at + 1;
         if q.len() <= count {
-            return Step::Stop(Refusal::Cut(count));
+            return Err(Refusal::Cut(count));
         }
         if MOST_FORMULAS < q[count] {
-            return Step::Stop(Refusal::ManyFormulas(count));
+            return Err(Refusal::ManyFormulas(count));
         }
-        Step::Next(Cursor {
+        Ok(Cursor {
             connectives: self.connectives,
             at: count + 1,
             due: q[count],
@@ -216,14 +211,14 @@ impl Cursor {
     }
 
     // Goes on by one command with its operand: what is expected and the byte give a refusal or the next cursor.
-    fn next(self, q: &[u8]) -> Step
+    fn next(self, q: &[u8]) -> Result<Cursor, Refusal>
         requires { Standing q.now self × (done q.now self ≡ false) }
         ensures { (steps q.now result ≡ read_from q.now self)
             × Onwards q.now (self.at + 1) result }
     {
         let at = self.at;
         if q.len() <= at {
-            return Step::Stop(Refusal::Cut(at));
+            return Err(Refusal::Cut(at));
         }
         let b = q[at];
         let expected = self.expected();
@@ -231,40 +226,13 @@ impl Cursor {
             Expected::Formula(_, _) => match b {
                 1 => self.letter(q),
                 2..=6 => self.connective(b),
-                _ => Step::Stop(Refusal::WrongCommand(at)),
+                _ => Err(Refusal::WrongCommand(at)),
             },
             Expected::Head(side) => self.head(q, b, side),
             // The end: a cursor never stands at a count or an operand.
-            _ => Step::Stop(Refusal::LeftOver(at)),
+            _ => Err(Refusal::LeftOver(at)),
         }
     }
-}
-
-// Reads a question: accepted, or the first refusal that is met.
-pub fn read(q: &[u8]) -> Reading
-    ensures { reading_of result ≡ reading q.now }
-{
-    if LONGEST_QUESTION < q.len() {
-        return Reading::Refused(Refusal::TooLong);
-    }
-    let mut cursor = Cursor {
-        connectives: 0,
-        at: 0,
-        due: 0,
-        sides: 2,
-    };
-    while !cursor.done(q) {
-        let step = cursor.next(q);
-        match step {
-            Step::Next(c) => {
-                cursor = c;
-            }
-            Step::Stop(r) => {
-                return Reading::Refused(r);
-            }
-        }
-    }
-    Reading::Accepted
 }
 
 // A walk over commands: the position of the next, and the formulas due from there on.
@@ -348,45 +316,72 @@ pub fn letters(q: &[u8], at: usize, n: usize, set: u64) -> u64
     all
 }
 
-// Where the formulas of a side of an accepted question start.
-pub fn side_start(q: &[u8], side: Side) -> usize
-    requires { reading q.now ≡ accepted }
-    ensures { result ≡ side_start side (question q.now) }
-{
-    match side {
-        Side::Left => 2,
-        Side::Right => skip(q, 2, wide(q[1])) + 2,
+impl<'a> Question<'a> {
+    // Reads a question: accepted, or the first refusal that is met.
+    pub fn read(q: &'a [u8]) -> Result<Question<'a>, Refusal>
+        ensures reads { reading_of result ≡ reading q.now }
+        ensures bytes { IfOk result (λ a. a.bytes.now ≡ q.now) }
+        ensures own { IfOk result (λ a. a.bytes ≡ q.entry) }
+    {
+        if LONGEST_QUESTION < q.len() {
+            return Err(Refusal::TooLong);
+        }
+        let mut cursor = Cursor {
+            connectives: 0,
+            at: 0,
+            due: 0,
+            sides: 2,
+        };
+        while !cursor.done(q) {
+            cursor = cursor.next(q)?;
+        }
+        Ok(Question { bytes: q })
+    }
+
+    // Where the formulas of a side start.
+    pub fn start(self, side: Side) -> usize
+        ensures { result ≡ side_start side (question self.entry.bytes.now) }
+    {
+        match side {
+            Side::Left => 2,
+            Side::Right => skip(self.bytes, 2, usize::from(self.bytes[1])) + 2,
+        }
+    }
+
+    // How many formulas a side has, where that side starts.
+    pub fn count(self, side: Side, start: usize) -> usize
+        requires { start ≡ side_start side (question self.bytes.now) }
+        ensures { result ≡ length (on_side side (question self.entry.bytes.now)) }
+    {
+        usize::from(self.bytes[start - 1])
+    }
+
+    // Which bytes are the formula at a place of a side, if there is one.
+    fn part(self, side: Side, place: usize) -> Option<Part>
+        ensures { MatchOption result (length (on_side side (question self.entry.bytes.now)) ≤ place)
+            (λ p. (place < length (on_side side (question self.entry.bytes.now)))
+            × (p ≡ formula_part self.entry.bytes.now side place)) }
+    {
+        let start = self.start(side);
+        if self.count(side, start) <= place {
+            return None;
+        }
+        let at = skip(self.bytes, start, place);
+        Some(Part {
+            start: at,
+            count: end_of(self.bytes, at) - at,
+        })
     }
 }
 
-// How many formulas a side of an accepted question has, where that side starts.
-pub fn side_count(q: &[u8], side: Side, start: usize) -> usize
-    requires { (reading q.now ≡ accepted) × (start ≡ side_start side (question q.now)) }
-    ensures { result ≡ length (on_side side (question q.now)) }
-{
-    wide(q[start - 1])
-}
-
-const NO_PART: Part = Part { start: 0, count: 0 };
-
-// Which bytes of the question are the formula at a place of a side.
+// Which bytes of the question are the formula at a place of a side: none where it is refused or has no such place.
 pub fn formula_part(q: &[u8], side: Side, place: usize) -> Part
     ensures { result ≡ formula_part q.now side place }
 {
-    let reading = read(q);
-    let Reading::Accepted = reading else {
-        return NO_PART;
+    let Ok(question) = Question::read(q) else {
+        return Part::default();
     };
-    let start = side_start(q, side);
-    let n = side_count(q, side, start);
-    if n <= place {
-        return NO_PART;
-    }
-    let at = skip(q, start, place);
-    Part {
-        start: at,
-        count: end_of(q, at) - at,
-    }
+    question.part(side, place).unwrap_or_default()
 }
 
 // The formula's own bytes of the question: none where it is refused or has no such place. A slice's `ptr` is where it starts.

@@ -4,7 +4,7 @@ use Rattle.calculus.specs.declared.Side.TheVariants.{Left}
 use Rattle.calculus.specs.declared.Expected.TheVariants.{Head}
 use Rattle.calculus.specs.Reading.{read}
 use Rattle.question.specs.Answers.{Standing, read_from}
-use Rattle.question.proofs.read.Given as goal
+use Rattle.question.proofs.Question.read.Given as goal
 
 abbrev pub invariant-loop-cursor : goal.invariant-loop-cursor
 invariant-loop-cursor l = Standing l.q l.cursor × (read_from l.q l.cursor ≡ read l.q (Head Left) 0 0)
