@@ -2,42 +2,26 @@
 // questions, and the spelling of a spelling. A buffer holds 99 where nothing is written.
 #![tactic(auto)]
 
-ghost use Rattle.std.specs.Prelude.{◌≤◌, length};
-
+use print::{Hexadecimal, Refused};
 use spelling::Spelling;
 use std::io;
 
 // One line: what the call answered.
 fn answer(rt: &impl Print, a: Spelling) -> io::Result<()> {
     match a {
-        Spelling::Refused(r) => print::write_refused(rt, r),
-        Spelling::NoSpace(n) => {
-            let numbers = [n as u64];
-            print::write_line(rt, b"no space 11", &numbers)
-        }
-        Spelling::Spelled(n) => {
-            let numbers = [n as u64];
-            print::write_line(rt, b"spelled", &numbers)
-        }
+        Spelling::Refused(r) => print!(rt; "{}", Refused(r)),
+        Spelling::NoSpace(n) => println!(rt; "no space 11 {n}"),
+        Spelling::Spelled(n) => println!(rt; "spelled {n}"),
     }
-}
-
-// One line: what a buffer of 40 bytes or fewer holds.
-fn show(rt: &impl Print, buffer: &[u8]) -> io::Result<()>
-    requires { length buffer.now ≤ 40 }
-{
-    if buffer.len() == 0 {
-        return print::write_bytes(rt, b"buffer", buffer);
-    }
-    print::write_bytes(rt, b"buffer ", buffer)
 }
 
 // What the call answers, and what the lent buffer holds after it.
-fn lend(rt: &impl Print, q: &[u8], buffer: &mut [u8]) -> io::Result<()>
-    requires { length buffer.old ≤ 40 }
-{
+fn lend(rt: &impl Print, q: &[u8], buffer: &mut [u8]) -> io::Result<()> {
     answer(rt, spelling::spell(q, buffer))?;
-    show(rt, buffer)
+    if buffer.is_empty() {
+        return println!(rt; "buffer");
+    }
+    println!(rt; "buffer {}", Hexadecimal(buffer))
 }
 
 // A buffer of 16 bytes.
