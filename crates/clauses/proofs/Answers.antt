@@ -1,64 +1,35 @@
 -- The answers of an accepted question, and what is promised of them.
 -- Assumes nothing.
-use mathlib.Core.Path.{◌≡◌, refl, sym, ap, ap₂, ◌∙◌}
+use Rattle.std.specs.Prelude.{Result, Ok, Err}
+use mathlib.Core.Path.{◌≡◌, refl, sym, ap, ap₂}
 use mathlib.Core.Bool.{Bool, true, false}
 use mathlib.Core.List.{List, [], ◌∷◌}
-use Prim.Native.Nat.{ℕ, ◌≤◌, ◌<◌}
+use Prim.Native.Nat.{ℕ, ◌<◌}
 use native.Mathlib.Omega.{arith}
-use lib.ListN.{length, take, drop, get_or}
-use Rattle.calculus.specs.declared.Side.TheVariants.{Left, Right}
-use Rattle.calculus.specs.Fold.{fold, ANY, Each}
-use Rattle.calculus.specs.Limits.{FORMULAS, LIMITS, RIGHT_FORMULA, NOT_CLAUSE, MANY_POSITIVE}
+use lib.ListN.{length, get_or}
+use Rattle.calculus.specs.declared.Side.TheVariants.{Right}
+use Rattle.calculus.specs.Fold.{fold, ANY}
+use Rattle.calculus.specs.Limits.{LIMITS, RIGHT_FORMULA, NOT_CLAUSE, MANY_POSITIVE}
 use Rattle.calculus.specs.Syntax.{Formula, Sequent}
-use Rattle.calculus.specs.Bytes.{formulas, question, side_start, Lettered}
-use Rattle.calculus.specs.Reading.{accepted, refused, reading}
-use Rattle.calculus.specs.Clauses.{Clause, Profile, outside, clauses, profile_from, profile_by, profile, Rest, rest, fails, Decision, theorem, refuted, judge, decided}
-use Rattle.calculus.specs.Reply.{Reply, decision_reply, profile_reply, clauses_reply}
+use Rattle.calculus.specs.Bytes.{question, side_start}
+use Rattle.calculus.specs.Reading.{accepted, reading}
+use Rattle.calculus.specs.Clauses.{Clause, Profile, outside, clauses, profile_by, profile, Rest, rest, fails, Decision, theorem, refuted, judge, decided}
+use Rattle.calculus.specs.Reply.{Reply, decision_reply, profile_reply}
 use Rattle.calculus.proofs.Bounds.{false_refutes}
 use Rattle.calculus.proofs.Readings.{accepted_question}
 use Rattle.calculus.proofs.Clauses.{decided_correct, decided_exactly, decided_agrees, rounds_letters}
-use Rattle.question.specs.declared.Refusal.{Refusal}
 use Rattle.question.specs.Answers.{number_of, place_of}
-use Rattle.question.proofs.Questions.{side_read}
-use Rattle.clauses.specs.declared.Settled.{Settled}
-use Rattle.clauses.specs.declared.Answer.{Answer}
-use Rattle.clauses.specs.declared.Answer.TheVariants.{Refused, RightFormula, NotClause, ManyPositive, Theorem, Refuted}
-use Rattle.clauses.specs.Tables.{Stored, settled_of}
+use Rattle.clauses.specs.declared.ClauseVerdict.{ClauseVerdict}
+use Rattle.clauses.specs.declared.ClauseVerdict.TheVariants.{Theorem, Refuted}
+use Rattle.clauses.specs.declared.NotClauses.{NotClauses}
+use Rattle.clauses.specs.declared.NotClauses.TheVariants.{Refused, RightFormula, NotClause, ManyPositive}
 use Rattle.clauses.specs.Answers.{reply_of, answer_of, Holds, Settles}
-use Rattle.clauses.proofs.Profiles.{profile_at, Holding}
+use Rattle.clauses.proofs.Profiles.{left_of}
 
--- ---- what clauses decide
+-- ---- a side
 
-module _ (cs : List Clause) (s : Settled) (e : s ≡ settled_of (rest cs)) where
-  judged_by : (b : Bool) → fold ANY (fails s.state) cs ≡ b → decided cs ≡ judge b (rest cs)
-  judged_by b f = ap (λ (c : Bool). judge c (rest cs)) (ap (λ (t : Settled). fold ANY (fails t.state) cs) (sym e) ∙ f)
-
-  pub decide_true : (b : Bool) → b ≡ fold ANY (fails s.state) cs → b ≡ true → Theorem s.rounds ≡ answer_of (decided cs)
-  decide_true b f t = ap (λ (u : Settled). Theorem u.rounds) e ∙ sym (ap answer_of (judged_by true (sym f ∙ t)))
-
-  pub decide_false : (b : Bool) → b ≡ fold ANY (fails s.state) cs → b ≡ false → Refuted s.state s.rounds ≡ answer_of (decided cs)
-  decide_false b f t = ap (λ (u : Settled). Refuted u.state u.rounds) e ∙ sym (ap answer_of (judged_by false (sym f ∙ t)))
-
-reply_answer : (d : Decision) → reply_of (answer_of d) ≡ decision_reply d
-reply_answer (theorem n) = refl
-reply_answer (refuted σ n) = refl
-
--- ---- the left side
-
-module _ (q : List ℕ) (a : reading q ≡ accepted) (at n : ℕ) (e : at ≡ side_start Left (question q)) (f : n ≡ length (question q).on_left) where
-  pub left_fit : (n ≤ FORMULAS) × (n ≤ length (formulas (drop at q))) × Each Lettered (take n (formulas (drop at q)))
-  left_fit =
-      let r = side_read q a Left at n e f in
-      (omega (arith, f, (accepted_question q a).0.lefts), r.enough, r.lettered)
-
-  pub left_profile : (question q).on_right ≡ [] → profile_at q at n ≡ profile (question q)
-  left_profile h =
-      ap₂ (λ (p : ℕ) (xs : List Formula). profile_from p xs) e (side_read q a Left at n e f).all ∙ ap (λ (ys : List Formula). profile_by ys (question q)) (sym h)
-
-pub held_reply : (all : Profile) (u p : List ℕ) (n : ℕ) → Holding u p n all → (r : Answer) → ((cs : List Clause) → Stored u p n cs → r ≡ answer_of (decided cs)) → reply_of r ≡ profile_reply all
-held_reply all u p n h r f = ap reply_of (f h.which h.stored) ∙ reply_answer (decided h.which) ∙ ap profile_reply (sym h.are)
-
--- ---- the right side
+pub left_profile : (S : Sequent) → S.on_right ≡ [] → left_of S ≡ profile S
+left_profile S h = ap (λ (ys : List Formula). profile_by ys S) (sym h)
 
 pub right_formula : (S : Sequent) (at n : ℕ) → at ≡ side_start Right S → n ≡ length S.on_right → 0 < n
     → record { number = RIGHT_FORMULA; values = at ∷ [] } ≡ profile_reply (profile S)
@@ -78,15 +49,15 @@ three (refuted σ n) = refl
 not_one : (d : Decision) (n at : ℕ) → record { number = n; values = at ∷ [] } ≡ decision_reply d → ⊥
 not_one d n at e = omega (arith, three d, ap (λ (r : Reply). length r.values) e)
 
-answer_of_lem : (r : Answer) (d : Decision) → reply_of r ≡ decision_reply d → r ≡ answer_of d
-answer_of_lem (Refused r) d e = absurd (not_one d (number_of r) (place_of r) e)
-answer_of_lem (RightFormula at) d e = absurd (not_one d RIGHT_FORMULA at e)
-answer_of_lem (NotClause at) d e = absurd (not_one d NOT_CLAUSE at e)
-answer_of_lem (ManyPositive at) d e = absurd (not_one d MANY_POSITIVE at e)
-answer_of_lem (Theorem m) (theorem n) e = ap Theorem (ap (λ (r : Reply). get_or r.values 2 0) e)
-answer_of_lem (Theorem m) (refuted σ n) e = absurd (omega (arith, ap (λ (r : Reply). get_or r.values 0 0) e))
-answer_of_lem (Refuted τ m) (theorem n) e = absurd (omega (arith, ap (λ (r : Reply). get_or r.values 0 0) e))
-answer_of_lem (Refuted τ m) (refuted σ n) e = ap₂ (λ (x y : ℕ). Refuted x y) (ap (λ (r : Reply). get_or r.values 1 0) e) (ap (λ (r : Reply). get_or r.values 2 0) e)
+answer_of_lem : (r : Result ClauseVerdict NotClauses) (d : Decision) → reply_of r ≡ decision_reply d → r ≡ Ok (answer_of d)
+answer_of_lem (Err (Refused r)) d e = absurd (not_one d (number_of r) (place_of r) e)
+answer_of_lem (Err (RightFormula at)) d e = absurd (not_one d RIGHT_FORMULA at e)
+answer_of_lem (Err (NotClause at)) d e = absurd (not_one d NOT_CLAUSE at e)
+answer_of_lem (Err (ManyPositive at)) d e = absurd (not_one d MANY_POSITIVE at e)
+answer_of_lem (Ok (Theorem m)) (theorem n) e = ap (λ (n : ℕ). Ok (Theorem n)) (ap (λ (r : Reply). get_or r.values 2 0) e)
+answer_of_lem (Ok (Theorem m)) (refuted σ n) e = absurd (omega (arith, ap (λ (r : Reply). get_or r.values 0 0) e))
+answer_of_lem (Ok (Refuted τ m)) (theorem n) e = absurd (omega (arith, ap (λ (r : Reply). get_or r.values 0 0) e))
+answer_of_lem (Ok (Refuted τ m)) (refuted σ n) e = ap₂ (λ (x y : ℕ). Ok (Refuted x y)) (ap (λ (r : Reply). get_or r.values 1 0) e) (ap (λ (r : Reply). get_or r.values 2 0) e)
 
 abbrev rounds_of : Decision → ℕ
 rounds_of (theorem n) = n
@@ -107,27 +78,18 @@ module _ (q : List ℕ) (a : reading q ≡ accepted) where
         rounds = omega (arith, ap rounds_of e, rounds_judged (fold ANY (fails (rest cs).state) cs) (rest cs), rounds_letters (question q) cs p LIMITS (accepted_question q a).0);
       }
 
-  promised_decision : (d : Decision) → Holds q d (rounds_of d) → Settles q (answer_of d)
+  promised_decision : (d : Decision) → Holds q d (rounds_of d) → Settles q (Ok (answer_of d))
   promised_decision (theorem n) h = h
   promised_decision (refuted σ n) h = (h, false_refutes (question q) σ h.correct.refutes)
 
-  outside_promised : (r : Answer) (n at : ℕ) → reply_of r ≡ record { number = n; values = at ∷ [] } → Settles q r
-  outside_promised (Refused r) n at e = tt
-  outside_promised (RightFormula i) n at e = tt
-  outside_promised (NotClause i) n at e = tt
-  outside_promised (ManyPositive i) n at e = tt
-  outside_promised (Theorem m) n at e = absurd (not_one (theorem m) n at (sym e))
-  outside_promised (Refuted σ m) n at e = absurd (not_one (refuted σ m) n at (sym e))
+  outside_promised : (r : Result ClauseVerdict NotClauses) (n at : ℕ) → reply_of r ≡ record { number = n; values = at ∷ [] } → Settles q r
+  outside_promised (Err r) n at e = tt
+  outside_promised (Ok (Theorem m)) n at e = absurd (not_one (theorem m) n at (sym e))
+  outside_promised (Ok (Refuted σ m)) n at e = absurd (not_one (refuted σ m) n at (sym e))
 
-  pub promised : (r : Answer) → reply_of r ≡ profile_reply (profile (question q)) → Settles q r
+  pub promised : (r : Result ClauseVerdict NotClauses) → reply_of r ≡ profile_reply (profile (question q)) → Settles q r
   promised r e = go (profile (question q)) refl e
     where
       go : (p : Profile) → profile (question q) ≡ p → reply_of r ≡ profile_reply p → Settles q r
       go (outside n at) p e = outside_promised r n at e
-      go (clauses cs) p e = let i : r ≡ answer_of (decided cs) = answer_of_lem r (decided cs) e in rw i (promised_decision (decided cs) (decision_holds cs p (decided cs) refl))
-
-  pub accepted_reply : (r : Answer) → reply_of r ≡ profile_reply (profile (question q)) → (reply_of r ≡ clauses_reply q) × Settles q r
-  accepted_reply r e = (rw a e, promised r e)
-
-pub refused_reply : (q : List ℕ) (r : Refusal) → refused (number_of r) (place_of r) ≡ reading q → (reply_of (Refused r) ≡ clauses_reply q) × Settles q (Refused r)
-refused_reply q r e = (rw (← e), tt)
+      go (clauses cs) p e = let i : r ≡ Ok (answer_of (decided cs)) = answer_of_lem r (decided cs) e in rw i (promised_decision (decided cs) (decision_holds cs p (decided cs) refl))

@@ -1,7 +1,7 @@
 -- The laws behind the functions' proofs. Assumes nothing.
 pub mod Walks
 pub mod Words
-pub mod Tables
+pub mod Rounds
 pub mod Profiles
 pub mod Rights
 pub mod Answers

@@ -2,33 +2,38 @@
 -- Assumes nothing.
 use mathlib.Core.Path.{◌≡◌, refl, sym, ap, ap₂, ◌∙◌}
 use mathlib.Core.Bool.{Bool, true, false}
-use mathlib.Core.Option.{Option, none, some}
-use mathlib.Core.List.{List, [], ◌∷◌, ◌++◌, append-nil}
+use mathlib.Core.Option as Math
+use mathlib.Core.Option.{none, some}
+use mathlib.Core.List.{List, [], ◌∷◌, ◌++◌, map, map-append, append-nil}
 use Prim.Native.Nat.{ℕ, ◌+◌, ◌-◌, ◌≤◌, ◌<◌}
 use native.Mathlib.Omega.{arith}
+use native.Mathlib.Numerals.{add-one}
 use lib.ListN.{length, take, drop, set, length-set}
+use lib.Seq.{take-suc-set, take_all, take-append_seam}
+use Rattle.std.specs.Prelude.{None, Some, Result, Ok, Err}
 use Rattle.calculus.specs.Fold.{Each, choose}
-use Rattle.calculus.specs.Limits.{NOT_CLAUSE, MANY_POSITIVE}
-use Rattle.calculus.specs.Syntax.{Formula}
-use Rattle.calculus.specs.Bytes.{encode, formulas, bytes, bytes_all, Lettered}
-use Rattle.calculus.specs.Tree.{state}
-use Rattle.calculus.specs.Clauses.{Clause, both, clause_of, several, Profile, outside, clauses, prepend, admit, profile_from, light_all}
+use Rattle.calculus.specs.declared.Side.TheVariants.{Left}
+use Rattle.calculus.specs.Limits.{FORMULAS, NOT_CLAUSE, MANY_POSITIVE}
+use Rattle.calculus.specs.Syntax.{Formula, Sequent}
+use Rattle.calculus.specs.Bytes.{question, side_start, encode, formulas, bytes, bytes_all, Lettered}
+use Rattle.calculus.specs.Reading.{accepted, reading}
+use Rattle.calculus.specs.Clauses.{Clause, both, clause_of, several, Profile, outside, clauses, prepend, admit, profile_from, light_all, Decision, theorem, refuted, decided}
+use Rattle.calculus.specs.Reply.{decision_reply, profile_reply}
 use Rattle.calculus.proofs.Rounds.{light_all_state}
 use Rattle.question.specs.Positions.{Well, formula_at, end_of}
+use Rattle.calculus.proofs.Readings.{accepted_question}
+use Rattle.question.proofs.Questions.{side_read}
 use Rattle.question.proofs.Parts.{NextDue, next_due}
-use Rattle.clauses.specs.declared.Gathered.{Gathered}
-use Rattle.clauses.specs.declared.Step.TheVariants.{Next, Other as OtherStep}
 use Rattle.clauses.specs.declared.Masks.{Masks}
-use Rattle.clauses.specs.declared.Form.{Form}
-use Rattle.clauses.specs.declared.Form.TheVariants.{Single as One, Many, Other}
-use Rattle.clauses.specs.Walks.{clause_all, with_clause, total, Within}
-use Rattle.clauses.specs.Tables.{Sized, Stored, form_by, form_at}
-use Rattle.clauses.proofs.Tables.{stored_put}
+use Rattle.clauses.specs.declared.Gathered.{Gathered}
+use Rattle.clauses.specs.declared.NotClauses.{NotClauses}
+use Rattle.clauses.specs.declared.NotClauses.TheVariants.{NotClause, ManyPositive}
+use Rattle.clauses.specs.declared.ClauseVerdict.{ClauseVerdict}
+use Rattle.clauses.specs.Answers.{reply_of, answer_of}
+use Rattle.clauses.specs.Walks.{start_at, clause_all, with_clause, total, Within}
+use Rattle.clauses.specs.Masks.{masks_of, clause_by, clause_at}
 
 -- ---- one formula
-
-abbrev pub start_at : ℕ → Gathered
-start_at at = record { negative = 0; positive = 0; count = 0; at = at; due = 1 }
 
 first_taken : (q : List ℕ) (at : ℕ) → Well q at → take 1 (formulas (drop at q)) ≡ formula_at q at ∷ []
 first_taken q at h = (next_due q at 1 (omega arith) h).split
@@ -36,15 +41,15 @@ first_taken q at h = (next_due q at 1 (omega arith) h).split
 pub start_within : (q : List ℕ) (at : ℕ) → Well q at → Lettered (formula_at q at) → Within q (start_at at)
 start_within q at h l = record { enough = h; lettered = rw (first_taken q at h) (l, tt); counted = omega arith }
 
-both_empty : (o : Option Clause) → both o (some (record { negative = []; positive = [] })) ≡ o
+both_empty : (o : Math.Option Clause) → both o (some (record { negative = []; positive = [] })) ≡ o
 both_empty none = refl
 both_empty (some c) = ap some (λ i. record { negative = append-nil c.negative i; positive = append-nil c.positive i })
 
-start_total : (q : List ℕ) (at : ℕ) → Well q at → total q (Next (start_at at)) ≡ with_clause (start_at at) (clause_of (formula_at q at)) (bytes (formula_at q at))
+start_total : (q : List ℕ) (at : ℕ) → Well q at → total q (start_at at) ≡ with_clause (start_at at) (clause_of (formula_at q at)) (bytes (formula_at q at))
 start_total q at h =
     let x = formula_at q at in
     ap (λ (xs : List Formula). with_clause (start_at at) (clause_all xs) (bytes_all xs)) (first_taken q at h)
-    ∙ ap₂ (λ (o : Option Clause) (b : ℕ). with_clause (start_at at) o b) (both_empty (clause_of x)) (ap length (append-nil (encode x)))
+    ∙ ap₂ (λ (o : Math.Option Clause) (b : ℕ). with_clause (start_at at) o b) (both_empty (clause_of x)) (ap length (append-nil (encode x)))
 
 several_long : (ks : List ℕ) → 1 < length ks → several ks ≡ true
 several_long [] h = absurd (omega arith)
@@ -56,70 +61,61 @@ several_short [] h = refl
 several_short (k ∷ []) h = refl
 several_short (k ∷ m ∷ ks) h = absurd (omega arith)
 
-no_next : (g : Gathered) → OtherStep ≡ Next g → ⊥
-no_next g e = let z : ◌≡◌ {A = ℕ} 0 1 = cc in omega arith
-
-record Reads (at b : ℕ) (o : Option Clause) (g : Gathered) : Type 0 where
+record Reads (at b : ℕ) (o : Math.Option Clause) (g : Gathered) : Type 0 where
   clause : Clause
   is : o ≡ some clause
-  negative : g.negative ≡ state clause.negative
-  positive : g.positive ≡ state clause.positive
+  masks : g.masks ≡ masks_of clause
   count : g.count ≡ length clause.positive
   end : g.at ≡ at + b
 
-reads : (at b : ℕ) (o : Option Clause) (g : Gathered) → Next g ≡ with_clause (start_at at) o b → Reads at b o g
-reads at b none g e = absurd (no_next g (sym e))
+reads : (at b : ℕ) (o : Math.Option Clause) (g : Gathered) → Some g ≡ with_clause (start_at at) o b → Reads at b o g
+reads at b none g e = absurd (cc)
 reads at b (some c) g e =
-    let f : g ≡ record { negative = light_all c.negative 0; positive = light_all c.positive 0; count = 0 + length c.positive; at = at + b; due = 0 } = cc in
+    let f : g ≡ record { masks = record { negative = light_all c.negative 0; positive = light_all c.positive 0 }; count = 0 + length c.positive; at = at + b; due = 0 } = cc in
     record {
       clause = c;
       is = refl;
-      negative = ap (λ (h : Gathered). h.negative) f ∙ light_all_state c.negative;
-      positive = ap (λ (h : Gathered). h.positive) f ∙ light_all_state c.positive;
+      masks = ap (λ (h : Gathered). h.masks) f ∙ (λ i. record { negative = light_all_state c.negative i; positive = light_all_state c.positive i });
       count = omega (arith, ap (λ (h : Gathered). h.count) f);
       end = ap (λ (h : Gathered). h.at) f;
     }
 
 module _ (q : List ℕ) (at : ℕ) (h : Well q at) where
-  pub form_other : OtherStep ≡ total q (Next (start_at at)) → Other ≡ form_at q at
-  form_other e = go (clause_of (formula_at q at)) (e ∙ start_total q at h)
+  pub clause_none : None ≡ total q (start_at at) → Err (NotClause at) ≡ clause_at q at
+  clause_none e = go (clause_of (formula_at q at)) (e ∙ start_total q at h)
     where
-      go : (o : Option Clause) → OtherStep ≡ with_clause (start_at at) o (bytes (formula_at q at)) → Other ≡ form_by o (end_of q at)
+      go : (o : Math.Option Clause) → None ≡ with_clause (start_at at) o (bytes (formula_at q at)) → Err (NotClause at) ≡ clause_by o at (end_of q at)
       go none e = refl
-      go (some c) e = absurd (no_next _ e)
+      go (some c) e = absurd (cc)
 
-  module _ (g : Gathered) (e : Next g ≡ total q (Next (start_at at))) where
+  module _ (g : Gathered) (e : Some g ≡ total q (start_at at)) where
     r : Reads at (bytes (formula_at q at)) (clause_of (formula_at q at)) g
     r = reads at (bytes (formula_at q at)) (clause_of (formula_at q at)) g (e ∙ start_total q at h)
 
-    pub form_many : 1 < g.count → Many ≡ form_at q at
-    form_many l =
-        let c = r.clause in
-        sym (ap (λ (o : Option Clause). form_by o (end_of q at)) r.is ∙ ap (λ (b : Bool). choose b Many (One (record { negative = state c.negative; positive = state c.positive; end = end_of q at }))) (several_long c.positive (omega (arith, r.count))))
+    told : (b : Bool) → several r.clause.positive ≡ b → choose b (Err (ManyPositive at)) (Ok (masks_of r.clause, end_of q at)) ≡ clause_at q at
+    told b f = ap (λ (b : Bool). choose {A = Result (Masks × ℕ) NotClauses} b (Err (ManyPositive at)) (Ok (masks_of r.clause, end_of q at))) (sym f) ∙ sym (ap (λ (o : Math.Option Clause). clause_by o at (end_of q at)) r.is)
 
-    pub form_single : g.count ≤ 1 → One (record { negative = g.negative; positive = g.positive; end = g.at }) ≡ form_at q at
-    form_single l =
-        let c = r.clause in
-        ap One (λ i. record { negative = r.negative i; positive = r.positive i; end = r.end i })
-        ∙ sym (ap (λ (o : Option Clause). form_by o (end_of q at)) r.is ∙ ap (λ (b : Bool). choose b Many (One (record { negative = state c.negative; positive = state c.positive; end = end_of q at }))) (several_short c.positive (omega (arith, r.count))))
+    pub clause_many : 1 < g.count → Err (ManyPositive at) ≡ clause_at q at
+    clause_many l = told true (several_long r.clause.positive (omega (arith, r.count)))
 
--- the forms, by the clause of the formula
-data Formed (q : List ℕ) (e : ℕ) : Form → Type 0 where
-  is_other : clause_of (formula_at q e) ≡ none → Formed q e Other
-  is_many : (c : Clause) → clause_of (formula_at q e) ≡ some c → several c.positive ≡ true → Formed q e Many
-  is_single : (c : Clause) → clause_of (formula_at q e) ≡ some c → several c.positive ≡ false
-      → Formed q e (One (record { negative = state c.negative; positive = state c.positive; end = end_of q e }))
+    pub clause_single : g.count ≤ 1 → Ok (g.masks, g.at) ≡ clause_at q at
+    clause_single l = ap₂ (λ (m : Masks) (n : ℕ). Ok (m, n)) r.masks r.end ∙ told false (several_short r.clause.positive (omega (arith, r.count)))
 
-formed : (q : List ℕ) (e : ℕ) → Formed q e (form_at q e)
-formed q e = go (clause_of (formula_at q e)) refl
+-- the answers, by the clause of the formula
+data Found (q : List ℕ) (at : ℕ) : Result (Masks × ℕ) NotClauses → Type 0 where
+  is_none : clause_of (formula_at q at) ≡ none → Found q at (Err (NotClause at))
+  is_many : (c : Clause) → clause_of (formula_at q at) ≡ some c → several c.positive ≡ true → Found q at (Err (ManyPositive at))
+  is_single : (c : Clause) → clause_of (formula_at q at) ≡ some c → several c.positive ≡ false → Found q at (Ok (masks_of c, end_of q at))
+
+found : (q : List ℕ) (at : ℕ) → Found q at (clause_at q at)
+found q at = go (clause_of (formula_at q at)) refl
   where
-    by : (c : Clause) → clause_of (formula_at q e) ≡ some c → (b : Bool) → several c.positive ≡ b
-        → Formed q e (choose b Many (One (record { negative = state c.negative; positive = state c.positive; end = end_of q e })))
+    by : (c : Clause) → clause_of (formula_at q at) ≡ some c → (b : Bool) → several c.positive ≡ b → Found q at (choose b (Err (ManyPositive at)) (Ok (masks_of c, end_of q at)))
     by c f true h = is_many c f h
     by c f false h = is_single c f h
 
-    go : (o : Option Clause) → clause_of (formula_at q e) ≡ o → Formed q e (form_by o (end_of q e))
-    go none f = is_other f
+    go : (o : Math.Option Clause) → clause_of (formula_at q at) ≡ o → Found q at (clause_by o at (end_of q at))
+    go none f = is_none f
     go (some c) f = by c f (several c.positive) refl
 
 -- ---- formula by formula
@@ -140,51 +136,46 @@ prepends_all : (cs : List Clause) → prepends cs (clauses []) ≡ clauses cs
 prepends_all [] = refl
 prepends_all (c ∷ cs) = ap (prepend c) (prepends_all cs)
 
--- that of n formulas from a position on
-abbrev pub profile_at : List ℕ → ℕ → ℕ → Profile
-profile_at q at n = profile_from at (take n (formulas (drop at q)))
-
--- lists that hold the clauses of a profile
-pub record Holding (u p : List ℕ) (n : ℕ) (all : Profile) : Type 0 where
-  pub which : List Clause
-  pub are : all ≡ clauses which
-  pub stored : Stored u p n which
-
 -- i of n formulas are stored; these clauses and the formulas from e on come to the whole profile
-pub record Storing (q : List ℕ) (at n : ℕ) (u p : List ℕ) (e i : ℕ) : Type 0 where
+pub record Storing (q : List ℕ) (all : Profile) (n : ℕ) (ms : List Masks) (e i : ℕ) : Type 0 where
   pub upto : i ≤ n
-  pub sized : Sized u p n
+  pub room : length ms ≡ n
   pub done : List Clause
-  pub stored : Stored u p i done
+  pub stored : take i ms ≡ map masks_of done
   pub enough : n - i ≤ length (formulas (drop e q))
   pub lettered : Each Lettered (take (n - i) (formulas (drop e q)))
-  pub same : prepends done (profile_from e (take (n - i) (formulas (drop e q)))) ≡ profile_at q at n
+  pub same : prepends done (profile_from e (take (n - i) (formulas (drop e q)))) ≡ all
 
-pub storing_first : (q : List ℕ) (at n : ℕ) (u p : List ℕ) → Sized u p n → n ≤ length (formulas (drop at q)) → Each Lettered (take n (formulas (drop at q)))
-    → Storing q at n u p at 0
-storing_first q at n u p z k l =
-    let e : n - 0 ≡ n = omega arith in
+-- the profile of a left side
+abbrev pub left_of : Sequent → Profile
+left_of S = profile_from (side_start Left S) S.on_left
+
+pub left_few : (q : List ℕ) → reading q ≡ accepted → (n : ℕ) → n ≡ length (question q).on_left → n ≤ FORMULAS
+left_few q a n f = omega (arith, f, (accepted_question q a).0.lefts)
+
+pub storing_first : (q : List ℕ) → reading q ≡ accepted → (at n : ℕ) → at ≡ side_start Left (question q) → n ≡ length (question q).on_left → (ms : List Masks) → length ms ≡ n
+    → Storing q (left_of (question q)) n ms at 0
+storing_first q a at n e f ms z =
+    let r = side_read q a Left at n e f in
+    let d : n - 0 ≡ n = omega arith in
     record {
       upto = omega arith;
-      sized = z;
+      room = z;
       done = [];
-      stored = record { counts = refl; under = refl; without = refl };
-      enough = omega arith;
-      lettered = rw e l;
-      same = rw e;
+      stored = refl;
+      enough = omega (arith, r.enough);
+      lettered = rw d r.lettered;
+      same = rw d (ap₂ (λ (p : ℕ) (xs : List Formula). profile_from p xs) e r.all);
     }
 
-pub storing_sized : (q : List ℕ) (at n : ℕ) (u p : List ℕ) (e i : ℕ) → Storing q at n u p e i → Sized u p i
-storing_sized q at n u p e i s = record { few = omega (arith, s.upto, s.sized.few); negatives = s.sized.negatives; positives = s.sized.positives }
-
-module _ (q : List ℕ) (at n : ℕ) (u p : List ℕ) (e i : ℕ) (s : Storing q at n u p e i) (h : i < n) where
+module _ {q : List ℕ} {all : Profile} {n : ℕ} {ms : List Masks} {e i : ℕ} (s : Storing q all n ms e i) (h : i < n) where
   now : NextDue q e (n - i)
   now = next_due q e (n - i) (omega arith) s.enough
 
   abbrev later : Profile
   later = profile_from (end_of q e) (take (n - i - 1) (formulas (drop (end_of q e) q)))
 
-  now_same : prepends s.done (admit e (clause_of (formula_at q e)) (profile_from (end_of q e) (take (n - i - 1) (formulas (drop (end_of q e) q))))) ≡ profile_at q at n
+  now_same : prepends s.done (admit e (clause_of (formula_at q e)) (profile_from (end_of q e) (take (n - i - 1) (formulas (drop (end_of q e) q))))) ≡ all
   now_same = sym (ap (λ (xs : List Formula). prepends s.done (profile_from e xs)) now.split) ∙ s.same
 
   now_lettered : Each Lettered (formula_at q e ∷ take (n - i - 1) (formulas (drop (end_of q e) q)))
@@ -193,57 +184,58 @@ module _ (q : List ℕ) (at n : ℕ) (u p : List ℕ) (e i : ℕ) (s : Storing q
   pub storing_well : Well q e × Lettered (formula_at q e)
   storing_well = (now.well, now_lettered.0)
 
-  refused : (k : ℕ) → admit e (clause_of (formula_at q e)) later ≡ outside k e → profile_at q at n ≡ outside k e
+  refused : (k : ℕ) → admit e (clause_of (formula_at q e)) later ≡ outside k e → all ≡ outside k e
   refused k f = sym now_same ∙ ap (prepends s.done) f ∙ prepends_outside s.done k e
 
   admitted : (c : Clause) (b : Bool) → clause_of (formula_at q e) ≡ some c → several c.positive ≡ b
       → admit e (clause_of (formula_at q e)) later ≡ choose b (outside MANY_POSITIVE e) (prepend c later)
-  admitted c b f g = ap (λ (o : Option Clause). admit e o later) f ∙ ap (λ (d : Bool). choose d (outside MANY_POSITIVE e) (prepend c later)) g
+  admitted c b f g = ap (λ (o : Math.Option Clause). admit e o later) f ∙ ap (λ (d : Bool). choose d (outside MANY_POSITIVE e) (prepend c later)) g
 
-  pub storing_other : Other ≡ form_at q e → profile_at q at n ≡ outside NOT_CLAUSE e
-  storing_other f = go (form_at q e) (formed q e) f
+  -- a formula that clauses do not decide
+  pub storing_stop : (r : NotClauses) → Err r ≡ clause_at q e → profile_reply (all) ≡ reply_of (Err r)
+  storing_stop r f = go (clause_at q e) (found q e) f
     where
-      go : (w : Form) → Formed q e w → Other ≡ w → profile_at q at n ≡ outside NOT_CLAUSE e
-      go w (is_other m) f = refused NOT_CLAUSE (ap (λ (o : Option Clause). admit e o later) m)
-      go w (is_many c m g) f = cc
-      go w (is_single c m g) f = cc
+      go : (w : Result (Masks × ℕ) NotClauses) → Found q e w → Err r ≡ w → profile_reply (all) ≡ reply_of (Err r)
+      go w (is_none m) f = let j : r ≡ NotClause e = cc in rw j (ap profile_reply (refused NOT_CLAUSE (ap (λ (o : Math.Option Clause). admit e o later) m)))
+      go w (is_many c m g) f = let j : r ≡ ManyPositive e = cc in rw j (ap profile_reply (refused MANY_POSITIVE (admitted c true m g)))
+      go w (is_single c m g) f = absurd (cc)
 
-  pub storing_many : Many ≡ form_at q e → profile_at q at n ≡ outside MANY_POSITIVE e
-  storing_many f = go (form_at q e) (formed q e) f
+  pub storing_next : (m : Masks) (d : ℕ) → Ok (m, d) ≡ clause_at q e → Storing q all n (set ms i m) d (i + 1)
+  storing_next m d f = go (clause_at q e) (found q e) f
     where
-      go : (w : Form) → Formed q e w → Many ≡ w → profile_at q at n ≡ outside MANY_POSITIVE e
-      go w (is_other m) f = cc
-      go w (is_many c m g) f = refused MANY_POSITIVE (admitted c true m g)
-      go w (is_single c m g) f = cc
-
-  pub storing_next : (k : Masks) → One k ≡ form_at q e → Storing q at n (set u i k.negative) (set p i k.positive) k.end (i + 1)
-  storing_next k f = go (form_at q e) (formed q e) f
-    where
-      go : (w : Form) → Formed q e w → One k ≡ w → Storing q at n (set u i k.negative) (set p i k.positive) k.end (i + 1)
-      go w (is_other m) f = let z : ◌≡◌ {A = ℕ} 0 1 = cc in absurd (omega arith)
-      go w (is_many c m g) f = let z : ◌≡◌ {A = ℕ} 0 1 = cc in absurd (omega arith)
-      go w (is_single c m g) f =
-          let j : k ≡ record { negative = state c.negative; positive = state c.positive; end = end_of q e } = cc in
-          let d : n - (i + 1) ≡ n - i - 1 = omega arith in
-          rw (ap (λ (k : Masks). k.end) j) (record {
+      go : (w : Result (Masks × ℕ) NotClauses) → Found q e w → Ok (m, d) ≡ w → Storing q all n (set ms i m) d (i + 1)
+      go w (is_none k) f = absurd (cc)
+      go w (is_many c k g) f = absurd (cc)
+      go w (is_single c k g) f =
+          let p : ◌≡◌ {A = Masks × ℕ} (m, d) (masks_of c, end_of q e) = cc in
+          let j : m ≡ masks_of c = ap (λ (x : Masks × ℕ). x.0) p in
+          let l : d ≡ end_of q e = ap (λ (x : Masks × ℕ). x.1) p in
+          let t : n - (i + 1) ≡ n - i - 1 = omega arith in
+          rw l (record {
             upto = omega arith;
-            sized = record {
-              few = s.sized.few;
-              negatives = length-set u i k.negative ∙ s.sized.negatives;
-              positives = length-set p i k.positive ∙ s.sized.positives;
-            };
+            room = length-set ms i m ∙ s.room;
             done = s.done ++ (c ∷ []);
             stored =
-                stored_put u p i k.negative k.positive s.done c (storing_sized q at n u p e i s) (omega (arith, s.sized.few)) s.stored
-                (ap (λ (k : Masks). k.negative) j) (ap (λ (k : Masks). k.positive) j);
-            enough = rw d now.due;
-            lettered = rw d now_lettered.1;
+                rw (add-one i) (take-suc-set ms i m (omega (arith, s.room)) ∙ ap₂ (λ (k : List Masks) (w : Masks). k ++ (w ∷ [])) s.stored j ∙ sym (map-append masks_of s.done (c ∷ [])));
+            enough = rw t now.due;
+            lettered = rw t now_lettered.1;
             same =
-                rw d (prepends_snoc s.done c (profile_from (end_of q e) (take (n - i - 1) (formulas (drop (end_of q e) q))))
-                ∙ ap (prepends s.done) (sym (admitted c false m g)) ∙ now_same);
+                rw t (prepends_snoc s.done c (profile_from (end_of q e) (take (n - i - 1) (formulas (drop (end_of q e) q))))
+                ∙ ap (prepends s.done) (sym (admitted c false k g)) ∙ now_same);
           })
 
-pub storing_last : (q : List ℕ) (at n : ℕ) (u p : List ℕ) (e i : ℕ) → Storing q at n u p e i → n ≤ i → Holding u p i (profile_at q at n)
-storing_last q at n u p e i s h =
+pub reply_answer : (d : Decision) → reply_of (Ok (answer_of d)) ≡ decision_reply d
+reply_answer (theorem n) = refl
+reply_answer (refuted σ n) = refl
+
+pub take_front : (n : ℕ) (ms others : List Masks) → length ms ≡ n → take n (ms ++ others) ≡ ms
+take_front n ms others e = rw (← e) (take-append_seam ms others)
+
+-- all are stored
+pub storing_last : {q : List ℕ} {all : Profile} {n : ℕ} {ms : List Masks} {e i : ℕ} → Storing q all n ms e i → n ≤ i → (v : ClauseVerdict)
+    → ((cs : List Clause) → ms ≡ map masks_of cs → v ≡ answer_of (decided cs)) → reply_of (Ok v) ≡ profile_reply (all)
+storing_last {n = n} {ms = ms} {i = i} s h v f =
     let z : n - i ≡ 0 = omega arith in
-    record { which = s.done; are = sym (sym (prepends_all s.done) ∙ rw z at s.same); stored = s.stored }
+    let k : take i ms ≡ ms = take_all i ms (omega (arith, s.room)) in
+    ap (λ (v : ClauseVerdict). reply_of (Ok v)) (f s.done (sym k ∙ s.stored)) ∙ reply_answer (decided s.done)
+    ∙ ap profile_reply (sym (prepends_all s.done) ∙ rw z at s.same)

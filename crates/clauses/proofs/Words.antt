@@ -2,7 +2,7 @@
 -- Assumes nothing.
 use mathlib.Core.Path.{◌≡◌, refl, sym, ap, ap₂, ◌∙◌}
 use mathlib.Core.Bool.{Bool, true, false, not, ◌&&◌, ◌||◌, or_comm, false≢true, true≢false}
-use mathlib.Core.List.{List, [], ◌∷◌, append-nil}
+use mathlib.Core.List.{List, [], ◌∷◌}
 use Prim.Native.Nat.{ℕ}
 use borrow.Author.Tests.{eqb-true, eq-eqb, ne_eqb}
 use lib.Bits.{bit_and, bit_or}
@@ -10,13 +10,15 @@ use lib.Dec.{eqb}
 use Rattle.calculus.specs.Fold.{fold, ANY, ALL, Each}
 use Rattle.calculus.specs.Truth.{bit}
 use Rattle.calculus.specs.Tree.{among, state}
-use Rattle.calculus.specs.Clauses.{Clause, met, fails, fired, light_all}
+use Rattle.calculus.specs.Clauses.{Clause, met, fails, light_all}
 use Rattle.calculus.proofs.Folds.{and_both, or_elim, or_right, not_so, each_false}
 use Rattle.calculus.proofs.Lists.{among_each}
 use Rattle.calculus.proofs.Bits.{bit_and_lem, bit_or_lem}
 use Rattle.calculus.proofs.Trees.{bit_zero, bit_state}
 use Rattle.calculus.proofs.States.{bit_ext}
 use Rattle.calculus.proofs.Rounds.{bit_light_all, one_of}
+use Rattle.clauses.specs.declared.Masks.{Masks}
+use Rattle.clauses.specs.Masks.{masks_of}
 
 -- ---- the letters under NOT
 
@@ -65,29 +67,19 @@ module _ (σ : ℕ) where
           let h = each_false (λ k. bit k σ ≡ false) (λ k. bit k σ) (λ k d. d) ks e in
           eq-eqb (bit_and (state ks) σ) 0 (bit_ext (bit_and (state ks) σ) 0 (λ k. and_bit k ∙ dark h k (among k ks) refl ∙ sym (bit_zero k)))
 
-light_mask : (ks : List ℕ) (σ : ℕ) → bit_or σ (state ks) ≡ light_all ks σ
+pub light_mask : (ks : List ℕ) (σ : ℕ) → bit_or σ (state ks) ≡ light_all ks σ
 light_mask ks σ =
     bit_ext (bit_or σ (state ks)) (light_all ks σ) (λ k. bit_or_lem k σ (state ks) ∙ ap (λ (b : Bool). bit k σ || b) (bit_state k ks) ∙ or_comm (bit k σ) (among k ks) ∙ sym (bit_light_all k ks σ))
 
--- ---- a clause in a round
+-- ---- a clause's masks
 
-module _ (c : Clause) (u p σ : ℕ) (e : u ≡ state c.negative) (f : p ≡ state c.positive) where
-  pub fire_met : (next : ℕ) → bit_and u σ ≡ u → bit_or next p ≡ light_all (fired σ (c ∷ [])) next
-  fire_met next h =
-      let m : met σ c ≡ true = met_mask σ c.negative (rw e at h) in
-      rw (m, append-nil c.positive, f) (light_mask c.positive next)
+module _ (m : Masks) (σ : ℕ) (c : Clause) (e : m ≡ masks_of c) where
+  pub met_test : eqb (bit_and m.negative σ) m.negative ≡ met σ c
+  met_test = rw e (go (eqb (bit_and (state c.negative) σ) (state c.negative)) refl)
+    where
+      go : (b : Bool) → eqb (bit_and (state c.negative) σ) (state c.negative) ≡ b → b ≡ met σ c
+      go true f = sym (met_mask σ c.negative (eqb-true (bit_and (state c.negative) σ) (state c.negative) f))
+      go false f = sym (unmet_mask σ c.negative (λ h. true≢false (sym (eq-eqb (bit_and (state c.negative) σ) (state c.negative) h) ∙ f)))
 
-  pub fire_unmet : (next : ℕ) → (bit_and u σ ≡ u → ⊥) → next ≡ light_all (fired σ (c ∷ [])) next
-  fire_unmet next h =
-      let m : met σ c ≡ false = unmet_mask σ c.negative (λ z. h (rw (← e) at z)) in
-      rw m
-
-  pub false_met : bit_and u σ ≡ u → eqb (bit_and p σ) 0 ≡ fails σ c
-  false_met h =
-      let m : met σ c ≡ true = met_mask σ c.negative (rw e at h) in
-      rw (m, f) (none_lit σ c.positive)
-
-  pub false_unmet : (bit_and u σ ≡ u → ⊥) → false ≡ fails σ c
-  false_unmet h =
-      let m : met σ c ≡ false = unmet_mask σ c.negative (λ z. h (rw (← e) at z)) in
-      rw m
+  pub fails_test : met σ c ≡ true → eqb (bit_and m.positive σ) 0 ≡ fails σ c
+  fails_test h = rw (e, h) (none_lit σ c.positive)

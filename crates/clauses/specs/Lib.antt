@@ -1,4 +1,4 @@
 -- What the contracts cite beside the definitions of documents 01 and 02.
 pub mod Walks
-pub mod Tables
+pub mod Masks
 pub mod Answers

@@ -2,204 +2,157 @@
 // letter without NOT is decided by unit clauses alone. A set of letters is a mask, letter k as bit k.
 #![tactic(auto)]
 
-ghost use Rattle.std.specs.Prelude.{◌≡◌, List, [], ◌∷◌, ◌≤◌, length, take, drop, get_or};
-ghost use Rattle.calculus.specs.Fold.{fold, ANY, Each};
-ghost use Rattle.calculus.specs.Limits.{FORMULAS};
-ghost use Rattle.calculus.specs.Syntax.{OR, NOT, two, on_side};
-ghost use Rattle.calculus.specs.Bytes.{LETTER, CONNECTIVE, code, formulas, question, Lettered};
-ghost use Rattle.calculus.specs.Reading.{accepted, reading};
+ghost use Rattle.std.specs.Prelude.{◌≡◌, List, [], ◌∷◌, map, ◌≤◌};
+ghost use Rattle.calculus.specs.Fold.{fold, ANY};
+ghost use Rattle.calculus.specs.Bytes.{question, side_start, Lettered};
 ghost use Rattle.calculus.specs.Tree.{state};
-ghost use Rattle.calculus.specs.Clauses.{Clause, profile_from, profile, fired, light_all, round, rest, fails, decided};
+ghost use Rattle.calculus.specs.Clauses.{Clause, profile_from, profile, met, fired, round, rest, fails, decided};
 ghost use Rattle.calculus.specs.Reply.{profile_reply, clauses_reply};
 ghost use Rattle.question.specs.Positions.{Well, formula_at};
-ghost use Rattle.clauses.specs.Walks.{total, Within, Onward};
-ghost use Rattle.clauses.specs.Tables.{Sized, Stored, settled_of, form_at};
+ghost use Rattle.clauses.specs.Walks.{start_at, total, total_of, Within, Onward};
+ghost use Rattle.clauses.specs.Masks.{masks_of, settled_of, clause_at};
 ghost use Rattle.clauses.specs.Answers.{reply_of, answer_of, Settles};
+ghost use Rattle.clauses.specs.declared.NotClauses.TheVariants.{Refused};
 
 use calculus::Side;
-use question::{ALL_FORMULAS, Reading, Refusal};
+use question::{ALL_FORMULAS, Question, Refusal};
 
-// What a walk has gathered: the letters under NOT, those without, how many of these it met, the position, and the
-// formulas that are due there, all joined by OR.
-#[derive(Clone, Copy)]
-pub struct Gathered {
+// A clause: its letters under NOT, and its letters without NOT.
+#[derive(Clone, Copy, Default)]
+pub struct Masks {
     pub negative: u64,
     pub positive: u64,
+}
+
+impl Masks {
+    // Its letters under NOT are all lit.
+    fn is_met(self, lit: u64) -> bool
+        ensures { (c : Clause) → self ≡ masks_of c → result ≡ met lit c }
+    {
+        self.negative & lit == self.negative
+    }
+
+    // The letters that it lights in a round that starts with these lit.
+    fn fired(self, lit: u64) -> u64
+        ensures { (c : Clause) → self ≡ masks_of c → result ≡ state (fired lit (c ∷ [])) }
+    {
+        if self.is_met(lit) { self.positive } else { 0 }
+    }
+
+    // It is false where these letters are lit.
+    fn fails(self, lit: u64) -> bool
+        ensures { (c : Clause) → self ≡ masks_of c → result ≡ fails lit c }
+    {
+        self.is_met(lit) && self.positive & lit == 0
+    }
+}
+
+// What a walk has gathered: the letters, how many without NOT it met, the position, and the formulas that are due there,
+// all joined by OR.
+#[derive(Clone, Copy)]
+pub struct Gathered {
+    pub masks: Masks,
     pub count: usize,
     pub at: usize,
     pub due: usize,
 }
 
-// The walk goes on, or has met what no clause has.
-#[derive(Clone, Copy)]
-pub enum Step {
-    Next(Gathered),
-    Other,
-}
-
 impl Gathered {
-    // A letter without NOT.
-    fn letter(self, q: &[u8]) -> Step
-        requires { Within q.now self × (1 ≤ self.due) × (get_or q.now self.at 0 ≡ code LETTER) }
-        ensures { (total q.now result ≡ total q.now (Step.Next self))
-            × Onward q.now self.at result }
+    // Nothing yet, where one formula is due.
+    fn start(at: usize) -> Gathered
+        ensures { result ≡ start_at at }
     {
-        let operand = self.at + 1;
-        Step::Next(Gathered {
-            negative: self.negative,
-            positive: question::marked(self.positive, q[operand]),
-            count: self.count + 1,
-            at: self.at + 2,
-            due: self.due - 1,
-        })
-    }
-
-    // NOT, which must be of a letter.
-    fn negated(self, q: &[u8]) -> Step
-        requires { Within q.now self × (1 ≤ self.due) × (get_or q.now self.at 0 ≡ code (CONNECTIVE NOT)) }
-        ensures { (total q.now result ≡ total q.now (Step.Next self))
-            × Onward q.now self.at result }
-    {
-        let part = self.at + 1;
-        if q[part] != 1 {
-            return Step::Other;
+        Gathered {
+            masks: Masks::default(),
+            count: 0,
+            at,
+            due: 1,
         }
-        let operand = self.at + 2;
-        Step::Next(Gathered {
-            negative: question::marked(self.negative, q[operand]),
-            positive: self.positive,
-            count: self.count,
-            at: self.at + 3,
-            due: self.due - 1,
-        })
     }
 
-    // OR, whose two parts are due in its place.
-    fn joined(self, q: &[u8]) -> Step
-        requires { Within q.now self × (1 ≤ self.due) × (get_or q.now self.at 0 ≡ code (CONNECTIVE (two OR))) }
-        ensures { (total q.now result ≡ total q.now (Step.Next self))
-            × Onward q.now self.at result }
-    {
-        Step::Next(Gathered {
-            negative: self.negative,
-            positive: self.positive,
-            count: self.count,
-            at: self.at + 1,
-            due: self.due + 1,
-        })
-    }
-
-    // One command with its operands.
-    fn step(self, q: &[u8]) -> Step
+    // One command with its operands: a letter, NOT of a letter, or OR, whose two parts are due in its place. A clause has
+    // no other.
+    fn step(self, q: &[u8]) -> Option<Gathered>
         requires { Within q.now self × (1 ≤ self.due) }
-        ensures { (total q.now result ≡ total q.now (Step.Next self))
-            × Onward q.now self.at result }
+        ensures { (total_of q.now result ≡ total q.now self) × Onward q.now self.at result }
     {
         let at = self.at;
-        let b = q[at];
-        match b {
-            1 => self.letter(q),
-            2 => self.negated(q),
-            4 => self.joined(q),
-            _ => Step::Other,
+        match q[at] {
+            1 => Some(Gathered {
+                masks: Masks {
+                    positive: question::marked(self.masks.positive, q[at + 1]),
+                    ..self.masks
+                },
+                count: self.count + 1,
+                at: at + 2,
+                due: self.due - 1,
+            }),
+            2 if q[at + 1] == 1 => Some(Gathered {
+                masks: Masks {
+                    negative: question::marked(self.masks.negative, q[at + 2]),
+                    ..self.masks
+                },
+                at: at + 3,
+                due: self.due - 1,
+                ..self
+            }),
+            4 => Some(Gathered {
+                at: at + 1,
+                due: self.due + 1,
+                ..self
+            }),
+            _ => None,
         }
     }
 
-    // All formulas that are due.
-    fn all(self, q: &[u8]) -> Step
+    // All formulas that are due, command by command: a range does not know how many there are.
+    fn all(self, q: &[u8]) -> Option<Gathered>
         requires { Within q.now self }
-        ensures { result ≡ total q.now (Step.Next self) }
+        ensures { result ≡ total q.now self }
     {
         let mut g = self;
         while 0 < g.due {
-            let step = g.step(q);
-            match step {
-                Step::Next(h) => {
-                    g = h;
-                }
-                Step::Other => {
-                    return Step::Other;
-                }
-            }
+            g = g.step(q)?;
         }
-        Step::Next(g)
+        Some(g)
     }
 }
 
-// A clause: its letters under NOT, its letter without NOT, if any, and the position behind it.
+// Why clauses do not decide a question, and the place.
 #[derive(Clone, Copy)]
-pub struct Masks {
-    pub negative: u64,
-    pub positive: u64,
-    pub end: usize,
+pub enum NotClauses {
+    Refused(Refusal),
+    RightFormula(usize),
+    NotClause(usize),
+    ManyPositive(usize),
 }
 
-// A clause with at most one letter without NOT, one with more, or no clause.
-#[derive(Clone, Copy)]
-pub enum Form {
-    Single(Masks),
-    Many,
-    Other,
+impl From<Refusal> for NotClauses {
+    ghost from_gives = { λ r e. e ≡ Refused r };
+
+    fn from(r: Refusal) -> NotClauses {
+        NotClauses::Refused(r)
+    }
 }
 
-// The form of the formula at a position.
-fn form_at(q: &[u8], at: usize) -> Form
+// The clause of the formula at a position, with at most one letter without NOT, and the position behind it.
+fn clause_at(q: &[u8], at: usize) -> Result<(Masks, usize), NotClauses>
     requires { Well q.now at × Lettered (formula_at q.now at) }
-    ensures { result ≡ form_at q.now at }
+    ensures { result ≡ clause_at q.now at }
 {
-    let start = Gathered {
-        negative: 0,
-        positive: 0,
-        count: 0,
-        at: at,
-        due: 1,
-    };
-    let step = start.all(q);
-    match step {
-        Step::Next(g) => {
-            if 1 < g.count {
-                return Form::Many;
-            }
-            Form::Single(Masks {
-                negative: g.negative,
-                positive: g.positive,
-                end: g.at,
-            })
-        }
-        Step::Other => Form::Other,
+    let g = Gathered::start(at).all(q).ok_or(NotClauses::NotClause(at))?;
+    if 1 < g.count {
+        return Err(NotClauses::ManyPositive(at));
     }
+    Ok((g.masks, g.at))
 }
 
-// The state next with the clause's letter lit, if its letters under NOT are all among those that are lit when the round
-// starts.
-fn fire(negative: u64, positive: u64, lit: u64, next: u64) -> u64
-    ensures { (c : Clause) → negative ≡ state c.negative → positive ≡ state c.positive
-        → result ≡ light_all (fired lit (c ∷ [])) next }
+// The state after a round over the clauses. A clause that is not met joins an empty mask: with a `filter` a round took
+// twice the time.
+fn round(clauses: &[Masks], state: u64) -> u64
+    ensures { (cs : List Clause) → clauses.now ≡ map masks_of cs → result ≡ round cs state }
 {
-    if negative & lit == negative {
-        next | positive
-    } else {
-        next
-    }
-}
-
-// A round over n clauses: their letters under NOT, and their letter without NOT, if any.
-fn round(
-    negatives: &[u64; ALL_FORMULAS],
-    positives: &[u64; ALL_FORMULAS],
-    n: usize,
-    state: u64,
-) -> u64
-    requires { Sized negatives.now positives.now n }
-    ensures { (cs : List Clause) → Stored negatives.now positives.now n cs → result ≡ round cs state }
-{
-    let mut next = state;
-    let mut i: usize = 0;
-    while i < n {
-        next = fire(negatives[i], positives[i], state, next);
-        i += 1;
-    }
-    next
+    clauses.iter().fold(state, |lit, c| lit | c.fired(state))
 }
 
 // The state in which the rounds end, and how many of them lit a letter.
@@ -210,146 +163,77 @@ pub struct Settled {
 }
 
 // Rounds until one lights none. Each that lights a letter takes it from another clause.
-fn settle(negatives: &[u64; ALL_FORMULAS], positives: &[u64; ALL_FORMULAS], n: usize) -> Settled
-    requires { Sized negatives.now positives.now n }
-    ensures { (cs : List Clause) → Stored negatives.now positives.now n cs → result ≡ settled_of (rest cs) }
+fn settle(clauses: &[Masks]) -> Settled
+    ensures { (cs : List Clause) → clauses.now ≡ map masks_of cs → result ≡ settled_of (rest cs) }
 {
-    let mut state: u64 = 0;
-    let mut rounds: usize = 0;
-    while rounds < n {
-        let next = round(negatives, positives, n, state);
+    let mut state = 0;
+    for rounds in 0..clauses.len() {
+        let next = round(clauses, state);
         if next == state {
-            return Settled {
-                state: state,
-                rounds: rounds,
-            };
+            return Settled { state, rounds };
         }
         state = next;
-        rounds += 1;
     }
     Settled {
-        state: state,
-        rounds: rounds,
+        state,
+        rounds: clauses.len(),
     }
 }
 
-// A clause is false where these letters are lit.
-fn is_false(negative: u64, positive: u64, lit: u64) -> bool
-    ensures { (c : Clause) → negative ≡ state c.negative → positive ≡ state c.positive → result ≡ fails lit c }
+// Some clause is false where these letters are lit.
+fn some_fails(clauses: &[Masks], lit: u64) -> bool
+    ensures { (cs : List Clause) → clauses.now ≡ map masks_of cs → result ≡ fold ANY (fails lit) cs }
 {
-    if negative & lit == negative {
-        positive & lit == 0
-    } else {
-        false
-    }
+    clauses.iter().any(|c| c.fails(lit))
 }
 
-// Some clause is false in a state.
-fn some_false(
-    negatives: &[u64; ALL_FORMULAS],
-    positives: &[u64; ALL_FORMULAS],
-    n: usize,
-    state: u64,
-) -> bool
-    requires { Sized negatives.now positives.now n }
-    ensures { (cs : List Clause) → Stored negatives.now positives.now n cs
-        → result ≡ fold ANY (fails state) cs }
-{
-    let mut i: usize = 0;
-    while i < n {
-        if is_false(negatives[i], positives[i], state) {
-            return true;
-        }
-        i += 1;
-    }
-    false
-}
-
-// What the call answers: a refusal with its place, or the rounds that lit a letter, with the state of a refuted question.
+// What clauses decide: the rounds that lit a letter, with the state of a refuted question.
 #[derive(Clone, Copy)]
-pub enum Answer {
-    Refused(Refusal),
-    RightFormula(usize),
-    NotClause(usize),
-    ManyPositive(usize),
+pub enum ClauseVerdict {
     Theorem(usize),
     Refuted(u64, usize),
 }
 
-// What n clauses decide.
-fn decide(negatives: &[u64; ALL_FORMULAS], positives: &[u64; ALL_FORMULAS], n: usize) -> Answer
-    requires { Sized negatives.now positives.now n }
-    ensures { (cs : List Clause) → Stored negatives.now positives.now n cs → result ≡ answer_of (decided cs) }
+// What clauses decide.
+fn decide(clauses: &[Masks]) -> ClauseVerdict
+    ensures { (cs : List Clause) → clauses.now ≡ map masks_of cs → result ≡ answer_of (decided cs) }
 {
-    let s = settle(negatives, positives, n);
-    if some_false(negatives, positives, n, s.state) {
-        return Answer::Theorem(s.rounds);
+    let s = settle(clauses);
+    if some_fails(clauses, s.state) {
+        return ClauseVerdict::Theorem(s.rounds);
     }
-    Answer::Refuted(s.state, s.rounds)
+    ClauseVerdict::Refuted(s.state, s.rounds)
 }
 
-// The clauses of n formulas that stand one after the other from a position on, and what they decide.
-fn decide_formulas(q: &[u8], at: usize, n: usize) -> Answer
-    requires { (n ≤ FORMULAS)
-        × (n ≤ length (formulas (drop at q.now)))
-        × Each Lettered (take n (formulas (drop at q.now))) }
-    ensures { reply_of result ≡ profile_reply (profile_from at (take n (formulas (drop at q.now)))) }
+// What the clauses on the left side of an accepted question decide.
+fn decide_left(q: Question<'_>) -> Result<ClauseVerdict, NotClauses>
+    ensures { let S = question q.entry.bytes.now in reply_of result ≡ profile_reply (profile_from (side_start Side.Left S) S.on_left) }
 {
-    let mut negatives: [u64; ALL_FORMULAS] = [0; ALL_FORMULAS];
-    let mut positives: [u64; ALL_FORMULAS] = [0; ALL_FORMULAS];
-    let mut end = at;
-    let mut i: usize = 0;
-    while i < n {
-        let form = form_at(q, end);
-        match form {
-            Form::Single(m) => {
-                negatives[i] = m.negative;
-                positives[i] = m.positive;
-                end = m.end;
-                i += 1;
-            }
-            Form::Many => {
-                return Answer::ManyPositive(end);
-            }
-            Form::Other => {
-                return Answer::NotClause(end);
-            }
-        }
+    let mut at = q.start(Side::Left);
+    let n = q.count(Side::Left, at);
+    let mut clauses = [Masks::default(); ALL_FORMULAS];
+    for clause in clauses[..n].iter_mut() {
+        (*clause, at) = clause_at(q.bytes, at)?;
     }
-    decide(&negatives, &positives, i)
-}
-
-// The left side of an accepted question whose right side is empty.
-fn decide_left(q: &[u8]) -> Answer
-    requires { (reading q.now ≡ accepted) × (on_side Side.Right (question q.now) ≡ []) }
-    ensures { reply_of result ≡ profile_reply (profile (question q.now)) }
-{
-    let start = question::side_start(q, Side::Left);
-    let n = question::side_count(q, Side::Left, start);
-    decide_formulas(q, start, n)
+    Ok(decide(&clauses[..n]))
 }
 
 // An accepted question. Every formula ends with a letter's command and operand, so the last byte but one tells if the
 // right side is empty.
-fn decide_accepted(q: &[u8]) -> Answer
-    requires { reading q.now ≡ accepted }
-    ensures { reply_of result ≡ profile_reply (profile (question q.now)) }
+fn decide_accepted(q: Question<'_>) -> Result<ClauseVerdict, NotClauses>
+    ensures { reply_of result ≡ profile_reply (profile (question q.entry.bytes.now)) }
 {
-    let tail = q.len() - 2;
-    if q[tail] == question::head_of(Side::Right) {
+    let tail = q.bytes.len() - 2;
+    if q.bytes[tail] == question::head_of(Side::Right) {
         return decide_left(q);
     }
-    Answer::RightFormula(question::side_start(q, Side::Right))
+    Err(NotClauses::RightFormula(q.start(Side::Right)))
 }
 
 // Decides a question of the profile by unit clauses alone.
-pub fn decide_clauses(q: &[u8]) -> Answer
+pub fn decide_clauses(q: &[u8]) -> Result<ClauseVerdict, NotClauses>
     ensures reply { reply_of result ≡ clauses_reply q.now }
     ensures settles { Settles q.now result }
 {
-    let reading = question::read(q);
-    match reading {
-        Reading::Refused(r) => Answer::Refused(r),
-        Reading::Accepted => decide_accepted(q),
-    }
+    decide_accepted(Question::read(q)?)
 }

@@ -3,6 +3,7 @@
 use mathlib.Core.Path.{◌≡◌, refl, sym, ap, ◌∙◌}
 use mathlib.Core.Bool.{Bool, true, false}
 use mathlib.Core.List.{List, [], ◌∷◌, ◌++◌}
+use Rattle.std.specs.Prelude.{None}
 use Prim.Native.Nat.{ℕ, suc, ◌+◌, ◌-◌, ◌≤◌, ◌<◌}
 use native.Mathlib.Numerals.{add-one}
 use native.Mathlib.Omega.{arith}
@@ -14,9 +15,8 @@ use Rattle.calculus.specs.declared.Side.TheVariants.{Left, Right}
 use Rattle.calculus.specs.Fold.{choose}
 use Rattle.calculus.specs.Limits.{ROOM, LETTERS}
 use Rattle.sequent.specs.declared.Running.{Running}
-use Rattle.sequent.specs.declared.Place.TheVariants.{At, Nowhere}
 use Rattle.sequent.specs.View.{view}
-use Rattle.sequent.specs.Compounds.{first_in, Found}
+use Rattle.sequent.specs.Compounds.{first_in, FoundAt, Found}
 
 -- ---- a name more
 
@@ -30,8 +30,8 @@ module _ (l : List ℕ) (i n : ℕ) (h : i < n) (k : n ≤ length l) where
   pub first_later : get_or l i 0 < LETTERS → first_in (slice i n l) ≡ suc (first_in (slice (i + 1) n l))
   first_later e = opened ∙ rw (lt-ltb (get_or l i 0) LETTERS e)
 
-pub first_none : (l : List ℕ) (n : ℕ) → first_in (slice n n l) ≡ 0
-first_none l n = ap first_in (slice_empty n l)
+pub first_none : (l : List ℕ) (i n : ℕ) → i ≡ n → first_in (slice i n l) ≡ 0
+first_none l i n e = rw e (ap first_in (slice_empty n l))
 
 -- ---- parts one after the other
 
@@ -106,7 +106,7 @@ module _ (s : Running) (l : List ℕ) (full : length l ≡ ROOM) (room : s.lefts
   right_count : length (view s l).on_right ≡ s.rights
   right_count = length-take-le s.rights (drop s.lefts l) (omega (arith, length-drop s.lefts l))
 
-  pub found_left : i < s.lefts → Found (view s l) (At Left i)
+  pub found_left : i < s.lefts → FoundAt (view s l) Left i
   found_left h =
       let k : i < length (view s l).on_left = omega (arith, left_count) in
       (in_first (view s l).on_left (view s l).on_right i first_of_both k, k)
@@ -118,8 +118,8 @@ module _ (s : Running) (l : List ℕ) (full : length l ≡ ROOM) (room : s.lefts
     right_first : i ≡ s.lefts + first_in (view s l).on_right
     right_first = rw left_count at (in_second (view s l).on_left (view s l).on_right i first_of_both (omega (arith, left_count)))
 
-    pub found_right : i < s.lefts + s.rights → Found (view s l) (At Right (i - s.lefts))
+    pub found_right : i < s.lefts + s.rights → FoundAt (view s l) Right (i - s.lefts)
     found_right k = (left_none, omega (arith, right_first), omega (arith, right_count))
 
-    pub found_nowhere : i ≡ s.lefts + s.rights → Found (view s l) Nowhere
+    pub found_nowhere : i ≡ s.lefts + s.rights → Found (view s l) None
     found_nowhere k = (left_none, omega (arith, right_first, right_count))

@@ -2,6 +2,7 @@
 -- Assumes nothing.
 use mathlib.Core.Path.{◌≡◌, refl, sym, ap, ◌∙◌, subst}
 use mathlib.Core.Option.{Option, some}
+use Rattle.std.specs.Prelude.{Option as Optional, Some, None}
 use mathlib.Core.List.{List, [], ◌∷◌, map}
 use Prim.Native.Nat.{ℕ, ◌+◌, ◌%◌, ◌≤◌, ◌<◌}
 use native.Mathlib.Omega.{arith}
@@ -18,7 +19,7 @@ use Rattle.calculus.specs.Bytes.{CONNECTIVE, code}
 use Rattle.calculus.specs.Table.{premise, premises, table}
 use Rattle.calculus.specs.Tree.{letters, twins, unlike, alike, state, missing, here, later, first}
 use Rattle.calculus.specs.Derivation.{Pairs}
-use Rattle.calculus.proofs.Folds.{each_at}
+use Rattle.calculus.proofs.Folds.{each, each_and, each_at}
 use Rattle.calculus.proofs.Sequents.{Due, Smaller, smaller}
 use Rattle.calculus.proofs.Trees.{alike_only}
 use Rattle.sequent.specs.declared.Placing.{Placing}
@@ -26,22 +27,20 @@ use Rattle.sequent.specs.declared.Running.{Running}
 use Rattle.sequent.specs.declared.Built.{Built}
 use Rattle.sequent.specs.declared.Reduction.{Reduction}
 use Rattle.sequent.specs.declared.Pair.{Pair}
-use Rattle.sequent.specs.declared.Pair.TheVariants.{Both, Neither}
-use Rattle.sequent.specs.declared.Place.TheVariants.{At, Nowhere}
 use Rattle.sequent.specs.Names.{first_of, second_of, formula_in, Known}
-use Rattle.sequent.specs.Rule.{rule_of, parts_on, placed, premises_of, sided, placings, overfull_of}
+use Rattle.sequent.specs.Rule.{rule_of, parts_on, placed, premises_of, sided, overfull_of}
 use Rattle.sequent.specs.View.{view, count_of, mask_of, slot_of, start_of, name_at, named, sequent_of, bit_of, letters_of, Good}
 use Rattle.sequent.specs.Passes.{Builds}
-use Rattle.sequent.specs.Compounds.{first_in, Clear, Found, EqualAt, Paired, twins_of, compound_of, IsCompound, compound_at, rule_for, reduction_at, premises_at, premise_by, Reducible, Makes}
+use Rattle.sequent.specs.Compounds.{first_in, Clear, FoundAt, Found, EqualAt, Paired, twins_of, compound_of, IsCompound, compound_at, rule_for, reduction_at, premises_at, premise_by, Reducible, Makes}
 use Rattle.sequent.proofs.Lists.{element, element_is, each_parts, each_premise, each_unmap, ones}
-use Rattle.sequent.proofs.Rows.{rows_of}
+use Rattle.sequent.proofs.Rows.{rows_of, few_rows}
 use Rattle.sequent.proofs.Masks.{letter_bit, state_fold, OR}
 use Rattle.sequent.proofs.Letters.{masked_premise}
 use Rattle.sequent.proofs.Sets.{covered_premise}
 use Rattle.sequent.proofs.Twins.{held as names-held, slot_name as name-at-slot}
 use Rattle.sequent.proofs.Namings.{letter_named, same_name, Compounded, compound_named, rule_connective}
 use Rattle.sequent.proofs.Rules.{rule_premises, rule_full, size_named}
-use Rattle.sequent.proofs.Placings.{OneOrTwo, one_or_two, Next, next_each}
+use Rattle.sequent.proofs.Placings.{nowhere}
 use Rattle.sequent.proofs.Restarts.{restarts}
 
 -- ---- names that are known: their letters, and the first compound
@@ -109,13 +108,13 @@ module _ (T items : List ℕ) (s : Running) (good : Good T items s) where
   masks_state Right = good.masks Right ∙ names_letters T good.nodes good.used good.few (view s items).on_right (good.known Right)
 
   -- "the first formula with a connective, the left side before the right"
-  pub found_left : (i : ℕ) → Found (view s items) (At Left i) → first (sequent_of T items s).on_left ≡ here i (compound_at T Left i (view s items))
+  pub found_left : (i : ℕ) → FoundAt (view s items) Left i → first (sequent_of T items s).on_left ≡ here i (compound_at T Left i (view s items))
   found_left i h = rw h.0 (first_found T good.nodes good.used good.few (view s items).on_left (good.known Left) (rw h.0 at h.1))
 
-  pub found_right : (i : ℕ) → Found (view s items) (At Right i) → (first (sequent_of T items s).on_left ≡ missing) × (first (sequent_of T items s).on_right ≡ here i (compound_at T Right i (view s items)))
+  pub found_right : (i : ℕ) → FoundAt (view s items) Right i → (first (sequent_of T items s).on_left ≡ missing) × (first (sequent_of T items s).on_right ≡ here i (compound_at T Right i (view s items)))
   found_right i h = (first_missing T good.nodes good.used good.few (view s items).on_left (good.known Left) h.0, rw h.1 (first_found T good.nodes good.used good.few (view s items).on_right (good.known Right) (rw h.1 at h.2)))
 
-  pub found_nowhere : Found (view s items) Nowhere → (first (sequent_of T items s).on_left ≡ missing) × (first (sequent_of T items s).on_right ≡ missing)
+  pub found_nowhere : Found (view s items) None → (first (sequent_of T items s).on_left ≡ missing) × (first (sequent_of T items s).on_right ≡ missing)
   found_nowhere h = (first_missing T good.nodes good.used good.few (view s items).on_left (good.known Left) h.0, first_missing T good.nodes good.used good.few (view s items).on_right (good.known Right) h.1)
 
   -- "the lowest left place that has an equal on the right, with the lowest such right place"
@@ -154,10 +153,10 @@ module _ (T items : List ℕ) (s : Running) (good : Good T items s) where
           go (yes h) = absurd (none d x.connective x.f x.g (sym (letter_named T good.nodes good.used good.few d k h) ∙ e))
           go (no h) = omega arith
 
-  pub twins_are : (r : Pair) → Paired (view s items) r → twins (sequent_of T items s).on_left (sequent_of T items s).on_right ≡ twins_of r
-  twins_are (Both i j) h =
-      alike_only (sequent_of T items s).on_left (sequent_of T items s).on_right (alike i j) (equal_formulas i j h.0, λ m n e. h.1 m n (equal_names m n e))
-  twins_are Neither h = alike_only (sequent_of T items s).on_left (sequent_of T items s).on_right unlike (λ m n e. h m n (equal_names m n e))
+  pub twins_are : (r : Optional Pair) → Paired (view s items) r → twins (sequent_of T items s).on_left (sequent_of T items s).on_right ≡ twins_of r
+  twins_are (Some p) h =
+      alike_only (sequent_of T items s).on_left (sequent_of T items s).on_right (alike p.left p.right) (equal_formulas p.left p.right h.0, λ m n e. h.1 m n (equal_names m n e))
+  twins_are None h = alike_only (sequent_of T items s).on_left (sequent_of T items s).on_right unlike (λ m n e. h m n (equal_names m n e))
 
   -- ---- a place of a side
 
@@ -206,7 +205,7 @@ module _ (T items : List ℕ) (s : Running) (good : Good T items s) where
         abbrev pub premise_of : Placing → Sequent
         premise_of p = named (formula_in T) (premise t i (view s items) (placed p (first_of r.node) (second_of r.node)))
 
-        pub premises_are : map premise_of (placings (rule_for r)) ≡ premises t i x (sequent_of T items s)
+        pub premises_are : map premise_of (rule_for r) ≡ premises t i x (sequent_of T items s)
         premises_are = rule_premises (formula_in T) (view s items) t i (first_of r.node) (second_of r.node) x first_part second_part (rule_for r) rows
 
         pub full_is : fold ANY (λ P. ltb ROOM (size P)) (premises t i x (sequent_of T items s)) ≡ overfull_of (rule_for r) (s.lefts + s.rights)
@@ -238,15 +237,6 @@ module _ (T items : List ℕ) (s : Running) (good : Good T items s) where
   -- ---- a reduction that can be made
 
   module _ (r : Reduction) (can : Reducible T items s r) where
-    pub premises_made : map (premise_by T items s r) (placings (rule_for r)) ≡ premises_at T items s r
-    premises_made = premises_are r.side r.at can.inside can.compound r can.exact
-
-    pub few : OneOrTwo (rule_for r)
-    few = rw (rule_is r.side r.at can.inside can.compound r can.exact) (one_or_two (compound_at T r.side r.at (view s items)).connective r.side)
-
-    each_made : (Q : Sequent → Type 0) → Each Q (premises_at T items s r) → Each (λ p. Q (premise_by T items s r p)) (placings (rule_for r))
-    each_made Q h = each_unmap (premise_by T items s r) Q (placings (rule_for r)) (subst (Each Q) (sym premises_made) h)
-
     fewer : Each (λ P. 1 + c P ≤ c (sequent_of T items s)) (premises_at T items s r)
     fewer = go (premises_at T items s r) (smaller r.side r.at (compound_at T r.side r.at (view s items)) (sequent_of T items s) (stands r.side r.at can.inside can.compound))
       where
@@ -265,23 +255,37 @@ module _ (T items : List ℕ) (s : Running) (good : Good T items s) where
         go Left h = omega (arith, good.room)
         go Right h = omega (arith, good.room)
 
-    -- the next premise of a loop over the rule's
-    pub makes_next : (j : ℕ) (p : Placing) → Next (rule_for r) j p → j < (rule_for r).premises → Makes T items s r p
-    makes_next j p n h =
-        record {
-          good = good;
-          can = can;
-          small = next_each (rule_for r) few (λ p. size (premise_by T items s r p) ≤ ROOM) (each_made (λ P. size P ≤ ROOM) can.fits) j p n h;
-          fewer = next_each (rule_for r) few (λ p. 1 + c (premise_by T items s r p) ≤ c (sequent_of T items s)) (each_made (λ P. 1 + c P ≤ c (sequent_of T items s)) fewer) j p n h;
-        }
+    -- ---- the premises of its rule
+
+    module _ (rule : List Placing) (e : rule ≡ rule_for r) where
+      pub premises_made : map (premise_by T items s r) rule ≡ premises_at T items s r
+      premises_made = ap (map (premise_by T items s r)) e ∙ premises_are r.side r.at can.inside can.compound r can.exact
+
+      pub few : length rule ≤ 2
+      few = rw (e, rule_is r.side r.at can.inside can.compound r can.exact) (few_rows (compound_at T r.side r.at (view s items)).connective r.side).1
+
+      each_made : (Q : Sequent → Type 0) → Each Q (premises_at T items s r) → Each (λ p. Q (premise_by T items s r p)) rule
+      each_made Q h = each_unmap (premise_by T items s r) Q rule (subst (Each Q) (sym premises_made) h)
+
+      -- each can be made
+      pub makes_each : Each (Makes T items s r) rule
+      makes_each =
+          each (λ p. (size (premise_by T items s r p) ≤ ROOM) × (1 + c (premise_by T items s r p) ≤ c (sequent_of T items s))) (Makes T items s r)
+          (λ p h. record { good = good; can = can; small = h.0; fewer = h.1 }) rule
+          (each_and (λ p. size (premise_by T items s r p) ≤ ROOM) (λ p. 1 + c (premise_by T items s r p) ≤ c (sequent_of T items s)) rule
+          (each_made (λ P. size P ≤ ROOM) can.fits) (each_made (λ P. 1 + c P ≤ c (sequent_of T items s)) fewer))
+
+      -- so can the next one of a loop over the rule
+      pub makes_next : (j : ℕ) → j < length rule → Makes T items s r (get_or rule j nowhere)
+      makes_next j h = each_at (Makes T items s r) rule j nowhere makes_each h
 
 -- ---- a premise made
 
 module _ (T items : List ℕ) (s : Running) (r : Reduction) (p : Placing) (m : Makes T items s r p) where
-  -- what `premise` asks beside the new list's length
-  pub premise_asks : (r.at < count_of r.side s) × (s.lefts + s.rights ≤ ROOM) × (length items ≡ ROOM) × (size (premise r.side r.at (view s items) (placed p (first_of r.node) (second_of r.node))) ≤ ROOM)
+  -- what `premise` asks
+  pub premise_asks : (r.at < count_of r.side s) × (s.lefts + s.rights ≤ ROOM) × (size (premise r.side r.at (view s items) (placed p (first_of r.node) (second_of r.node))) ≤ ROOM)
   premise_asks =
-      (m.can.inside, m.good.room, m.good.places, omega (arith, m.small, size_named (formula_in T) (premise r.side r.at (view s items) (placed p (first_of r.node) (second_of r.node)))))
+      (m.can.inside, m.good.room, omega (arith, m.small, size_named (formula_in T) (premise r.side r.at (view s items) (placed p (first_of r.node) (second_of r.node)))))
 
   module _ (before new : List ℕ) (b : Built) (builds : Builds r.side r.at p (first_of r.node) (second_of r.node) s items before new b) where
     pub made_is : sequent_of T new b.running ≡ premise_by T items s r p
@@ -294,7 +298,7 @@ module _ (T items : List ℕ) (s : Running) (r : Reduction) (p : Placing) (m : M
     made_stores = builds.stores ∙ sym (size_named (formula_in T) (premise r.side r.at (view s items) (placed p (first_of r.node) (second_of r.node))))
 
     -- letters alone stand before where it is searched from, if the first compound was reduced
-    pub made_clear : Found (view s items) (At r.side r.at) → Clear (start_of r.side r.at s) new b.running
+    pub made_clear : FoundAt (view s items) r.side r.at → Clear (start_of r.side r.at s) new b.running
     made_clear found =
         let w = restarts s items m.good.places m.good.room r.side r.at found (placed p (first_of r.node) (second_of r.node)) b.running new builds.held in
         record { inside = omega (arith, w.0); letters = w.1 }

@@ -2,12 +2,11 @@
 -- Assumes nothing.
 use mathlib.Core.Path.{◌≡◌, refl, sym, ap, ◌∙◌}
 use mathlib.Core.Option.{some}
+use Rattle.std.specs.Prelude.{Option, Some, None}
 use mathlib.Core.List.{List, [], ◌∷◌, ◌++◌}
 use Prim.Native.Nat.{ℕ, zero, suc, ◌*◌, ◌%◌, ◌^◌, ◌≤◌, ◌<◌}
-use native.Mathlib.Nat.{one-mul, mod-eq_of_lt}
-use lib.Pow.{pow-lt}
 use native.Mathlib.Omega.{arith}
-use lib.Bits.{bit_or}
+use lib.Bits.{bit_or, or_zero_r}
 use lib.ListN.{length, get_or, get_elem?}
 use borrow.Author.Tests.{le-ltb}
 use Rattle.calculus.specs.declared.Side.{Side}
@@ -18,14 +17,11 @@ use Rattle.calculus.specs.Syntax.{Seq, on_side}
 use Rattle.calculus.specs.Table.{splice, premise}
 use Rattle.calculus.proofs.Folds.{fold_append}
 use Rattle.sequent.specs.declared.Placing.{Placing}
-use Rattle.sequent.specs.Rule.{parts_on, placed}
-use Rattle.sequent.proofs.Masks.{OR, fold_splice}
+use Rattle.sequent.specs.Rule.{goes_to, keep, parts_on, placed}
+use Rattle.sequent.proofs.Masks.{or_assoc, OR, fold_splice}
 use Rattle.sequent.proofs.Lists.{on_left, on_right}
 use Rattle.sequent.specs.declared.Running.{Running}
-use Rattle.sequent.specs.View.{view, mask_of, set_of, bits_by, bit_of, letters_of, compounds_of, Masked, Joined}
-
-pub shifted : (w k : ℕ) → k < w → 1 * 2 ^ k % 2 ^ w ≡ 2 ^ k
-shifted w k h = rw (one-mul (2 ^ k)) (mod-eq_of_lt (pow-lt h))
+use Rattle.sequent.specs.View.{view, mask_of, set_of, bits_by, bit_of, letters_of, compound_bit, compounds_of, Masked, With, Joined}
 
 pub bits_fold : (β : ℕ → ℕ) (xs : List ℕ) → bits_by β xs ≡ fold OR β xs
 bits_fold β [] = refl
@@ -44,22 +40,67 @@ letters_splice : (xs new : List ℕ) (i : ℕ) → i < length xs → LETTERS ≤
 letters_splice xs new i h k =
     bits_fold bit_of (splice i new xs) ∙ fold_splice OR bit_of xs i (get_or xs i 0) new (at_place xs i h) (rw (le-ltb (get_or xs i 0) LETTERS k)) ∙ rw (bits_fold bit_of xs, bits_fold bit_of new)
 
--- the letters and the compounds of parts join those of their sides
-abbrev with_bits : ℕ → ℕ → Running → ℕ → ℕ → ℕ → ℕ → Running
-with_bits m n s a b x y =
-    record { lefts = m; rights = n; leftmask = bit_or s.leftmask a; rightmask = bit_or s.rightmask b; leftset = bit_or s.leftset x; rightset = bit_or s.rightset y }
+-- ---- parts join
 
-pub joined_made : (m n : ℕ) (s : Running) (p : Placing) (f g a b x y : ℕ) → a ≡ letters_of (parts_on Left p f g) → b ≡ letters_of (parts_on Right p f g)
-    → x ≡ compounds_of (parts_on Left p f g) → y ≡ compounds_of (parts_on Right p f g) → Joined m n p f g s (with_bits m n s a b x y)
-joined_made m n s p f g a b x y h k l i = record { on_left = refl; on_right = refl; masks = masks; sets = sets }
+abbrev with_bits : Side → ℕ → ℕ → Running → Running
+with_bits Left a x s = record s { leftmask = bit_or s.leftmask a; leftset = bit_or s.leftset x }
+with_bits Right a x s = record s { rightmask = bit_or s.rightmask a; rightset = bit_or s.rightset x }
+
+module _ (name : ℕ) (s : Running) where
+  pub with_side : (t : Side) (to : Option Side) → to ≡ Some t → (a x : ℕ) → a ≡ bit_of name → x ≡ compound_bit name → With to name s (with_bits t a x s)
+  with_side t to e a x h k = record { on_left = same_left t; on_right = same_right t; masks = λ u. masks t u ∙ ap (λ (o : Option Side). bit_or (mask_of u s) (letters_of (keep (goes_to u o) name))) (sym e); sets = λ u. sets t u ∙ ap (λ (o : Option Side). bit_or (set_of u s) (compounds_of (keep (goes_to u o) name))) (sym e) }
+    where
+      same_left : (t : Side) → (with_bits t a x s).lefts ≡ s.lefts
+      same_left Left = refl
+      same_left Right = refl
+
+      same_right : (t : Side) → (with_bits t a x s).rights ≡ s.rights
+      same_right Left = refl
+      same_right Right = refl
+
+      masks : (t u : Side) → mask_of u (with_bits t a x s) ≡ bit_or (mask_of u s) (letters_of (keep (goes_to u (Some t)) name))
+      masks Left Left = ap (bit_or s.leftmask) (h ∙ sym (or_zero_r (bit_of name)))
+      masks Left Right = sym (or_zero_r s.rightmask)
+      masks Right Left = sym (or_zero_r s.leftmask)
+      masks Right Right = ap (bit_or s.rightmask) (h ∙ sym (or_zero_r (bit_of name)))
+
+      sets : (t u : Side) → set_of u (with_bits t a x s) ≡ bit_or (set_of u s) (compounds_of (keep (goes_to u (Some t)) name))
+      sets Left Left = ap (bit_or s.leftset) (k ∙ sym (or_zero_r (compound_bit name)))
+      sets Left Right = sym (or_zero_r s.rightset)
+      sets Right Left = sym (or_zero_r s.leftset)
+      sets Right Right = ap (bit_or s.rightset) (k ∙ sym (or_zero_r (compound_bit name)))
+
+  pub with_none : (to : Option Side) → to ≡ None → With to name s s
+  with_none to e =
+      record {
+        on_left = refl;
+        on_right = refl;
+        masks = λ u. sym (or_zero_r (mask_of u s)) ∙ ap (λ (o : Option Side). bit_or (mask_of u s) (letters_of (keep (goes_to u o) name))) (sym e);
+        sets = λ u. sym (or_zero_r (set_of u s)) ∙ ap (λ (o : Option Side). bit_or (set_of u s) (compounds_of (keep (goes_to u o) name))) (sym e);
+      }
+
+pub joined_made : (m n : ℕ) (s a b : Running) (p : Placing) (f g : ℕ) → With p.f f (record s { lefts = m; rights = n }) a → With p.g g a b → Joined m n p f g s b
+joined_made m n s a b p f g h k =
+    record {
+      on_left = k.on_left ∙ h.on_left;
+      on_right = k.on_right ∙ h.on_right;
+      masks = λ t. both bit_of t (mask_of t s) (mask_of t a) (mask_of t b) (h.masks t ∙ ap (λ (u : ℕ). bit_or u (letters_of (keep (goes_to t p.f) f))) (same_mask t)) (k.masks t);
+      sets = λ t. both compound_bit t (set_of t s) (set_of t a) (set_of t b) (h.sets t ∙ ap (λ (u : ℕ). bit_or u (compounds_of (keep (goes_to t p.f) f))) (same_set t)) (k.sets t);
+    }
   where
-    masks : (t : Side) → mask_of t (with_bits m n s a b x y) ≡ bit_or (mask_of t s) (letters_of (parts_on t p f g))
-    masks Left = ap (bit_or s.leftmask) h
-    masks Right = ap (bit_or s.rightmask) k
+    same_mask : (t : Side) → mask_of t (record s { lefts = m; rights = n }) ≡ mask_of t s
+    same_mask Left = refl
+    same_mask Right = refl
 
-    sets : (t : Side) → set_of t (with_bits m n s a b x y) ≡ bit_or (set_of t s) (compounds_of (parts_on t p f g))
-    sets Left = ap (bit_or s.leftset) l
-    sets Right = ap (bit_or s.rightset) i
+    same_set : (t : Side) → set_of t (record s { lefts = m; rights = n }) ≡ set_of t s
+    same_set Left = refl
+    same_set Right = refl
+
+    both : (β : ℕ → ℕ) (t : Side) (x y z : ℕ) → y ≡ bit_or x (bits_by β (keep (goes_to t p.f) f)) → z ≡ bit_or y (bits_by β (keep (goes_to t p.g) g)) → z ≡ bit_or x (bits_by β (parts_on t p f g))
+    both β t x y z d e =
+        let u = bits_by β (keep (goes_to t p.f) f) in
+        let v = bits_by β (keep (goes_to t p.g) g) in
+        e ∙ ap (λ (w : ℕ). bit_or w v) d ∙ or_assoc x u v ∙ ap (bit_or x) (sym (bits_append β (keep (goes_to t p.f) f) (keep (goes_to t p.g) g)))
 
 -- a premise's masks are its letters
 premise_letters : (t : Side) (i : ℕ) (S : Seq ℕ) (p : Placing) (f g : ℕ) → i < length (on_side t S) → LETTERS ≤ get_or (on_side t S) i 0

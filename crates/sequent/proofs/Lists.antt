@@ -6,7 +6,6 @@ use mathlib.Core.Option.{some, none-ne-some}
 use mathlib.Core.List.{List, [], ◌∷◌, ◌++◌, map, map-append}
 use Prim.Native.Nat.{ℕ, zero, suc, ◌+◌, ◌<◌}
 use native.Mathlib.Omega.{arith}
-use lib.Dec.{eqb}
 use lib.ListN.{length, take, drop, get_or, get_elem?, length-append, length-take, length-drop}
 use Rattle.calculus.specs.declared.Side.{Side}
 use Rattle.calculus.specs.declared.Side.TheVariants.{Left, Right}
@@ -15,7 +14,7 @@ use Rattle.calculus.specs.Syntax.{Seq, on_side}
 use Rattle.calculus.specs.Table.{L, R, on, splice, premise}
 use Rattle.calculus.proofs.Folds.{each_append}
 use Rattle.sequent.specs.declared.Placing.{Placing}
-use Rattle.sequent.specs.Rule.{side_code, keep, parts_on, placed}
+use Rattle.sequent.specs.Rule.{goes_to, keep, parts_on, placed}
 
 pub on_left : {X : Type 0} (xs ys : List X) → on Left (map (λ z. L z) xs ++ map (λ z. R z) ys) ≡ xs
 on_left {X} (x ∷ xs) ys = ap (λ (l : List X). x ∷ l) (on_left xs ys)
@@ -60,7 +59,7 @@ each_splice Q (suc i) new [] h k = each_append Q new [] h tt
 each_splice Q (suc i) new (x ∷ xs) h k = (k.0, each_splice Q i new xs h k.1)
 
 pub each_parts : (Q : ℕ → Type 0) (t : Side) (p : Placing) (f g : ℕ) → Q f → Q g → Each Q (parts_on t p f g)
-each_parts Q t p f g h k = each_append Q (keep (eqb p.f (side_code t)) f) (keep (eqb p.g (side_code t)) g) (one (eqb p.f (side_code t)) f h) (one (eqb p.g (side_code t)) g k)
+each_parts Q t p f g h k = each_append Q (keep (goes_to t p.f) f) (keep (goes_to t p.g) g) (one (goes_to t p.f) f h) (one (goes_to t p.g) g k)
   where
     one : (b : Bool) (x : ℕ) → Q x → Each Q (keep b x)
     one true x h = (h, tt)

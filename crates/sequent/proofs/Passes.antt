@@ -16,17 +16,6 @@ pass i j n = record { from = i; to = j; stores = n }
 pub nothing : (a : Pass) (l : List ℕ) → Stored a a a.from [] l l
 nothing a l = record { held = sym (append-nil (take a.to l)); behind = refl; size = refl; to = omega arith; stores = omega arith; from = refl }
 
-pub one : (f i j n x : ℕ) (l : List ℕ) → j < length l → Stored (pass i j n) (pass f (j + 1) (n + 1)) f (x ∷ []) l (set l j x)
-one f i j n x l h =
-    record {
-      held = rw (add-one j) (take-suc-set l j x h);
-      behind = drop-set-lt (j + 1) l j x (omega arith);
-      size = length-set l j x;
-      to = omega arith;
-      stores = omega arith;
-      from = refl;
-    }
-
 pub chain : {a b c : Pass} {f g : ℕ} {xs ys l m n : List ℕ} → Stored a b f xs l m → Stored b c g ys m n → Stored a c g (xs ++ ys) l n
 chain {a} {b} {c} {f} {g} {xs} {ys} {l} {m} {n} h k =
     record {
@@ -72,36 +61,3 @@ fits_after n m h s e =
 pub slice_more : (a i : ℕ) (l : List ℕ) → a ≤ i → i < length l → slice a (i + 1) l ≡ slice a i l ++ (get_or l i 0 ∷ [])
 slice_more a i l h k =
     rw (add-one i, take-suc l i 0 k) (drop-append-le a (take i l) (get_or l i 0 ∷ []) (omega (arith, length-take-le i l (omega arith))))
-
-module _ (old l : List ℕ) (i₀ j₀ n₀ end : ℕ) where
-  -- the old names up to the i-th are stored
-  pub record Copied (new : List ℕ) (i j n : ℕ) : Type 0 where
-    pub low : i₀ ≤ i
-    pub high : i ≤ end
-    pub along : j + i₀ ≡ j₀ + i
-    pub counted : n + i₀ ≡ n₀ + i
-    pub stored : Stored (pass i₀ j₀ n₀) (pass i j n) i (slice i₀ i old) l new
-
-  pub copying_starts : i₀ ≤ end → Copied l i₀ j₀ n₀
-  copying_starts h =
-      record {
-        low = omega arith;
-        high = h;
-        along = omega arith;
-        counted = omega arith;
-        stored = rw (slice_empty i₀ old) (nothing (pass i₀ j₀ n₀) l);
-      }
-
-  module _ (new : List ℕ) (i j n : ℕ) (h : Copied new i j n) where
-    pub copying_goes : i < end → i < length old → j < length new → Copied (set new j (get_or old i 0)) (i + 1) (j + 1) (n + 1)
-    copying_goes k fits room =
-        record {
-          low = omega (arith, h.low);
-          high = omega arith;
-          along = omega (arith, h.along);
-          counted = omega (arith, h.counted);
-          stored = rw (slice_more i₀ i old h.low fits) (chain h.stored (one (i + 1) i j n (get_or old i 0) new room));
-        }
-
-    pub copying_ends : end ≤ i → Stored (pass i₀ j₀ n₀) (pass i j n) end (slice i₀ end old) l new
-    copying_ends k = let e : i ≡ end = omega (arith, h.high) in rw (sym e) h.stored

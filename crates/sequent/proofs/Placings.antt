@@ -1,101 +1,46 @@
--- A loop over the premises of a rule: the placing that comes next, and what is left.
+-- A loop over the premises of a rule: what is left, and the stores so far.
 -- Assumes nothing.
-use mathlib.Core.Path.{◌≡◌, refl, ap}
-use mathlib.Core.Bool.{Bool, true, false}
+use mathlib.Core.Path.{◌≡◌, sym, ap, ◌∙◌}
+use Rattle.std.specs.Prelude.{None}
 use mathlib.Core.List.{List, [], ◌∷◌, map}
-use Prim.Native.Nat.{ℕ, zero, suc, ◌+◌, ◌*◌, ◌≤◌, ◌<◌}
+use Prim.Native.Nat.{ℕ, ◌+◌, ◌*◌, ◌≤◌, ◌<◌}
+use native.Mathlib.Numerals.{add-one}
 use native.Mathlib.Omega.{arith}
-use lib.Dec.{eqb}
-use lib.ListN.{length, drop, drop_of_length-le}
-use borrow.Author.Tests.{eqb-true, eqb-false, eq-eqb}
-use Rattle.calculus.specs.declared.Side.{Side}
-use Rattle.calculus.specs.Fold.{fold, SUM, Each, choose}
+use lib.ListN.{length, drop, get_or, drop_of_length-le}
+use lib.Seq.{drop-cons}
+use Rattle.calculus.specs.Fold.{fold, SUM}
 use Rattle.calculus.specs.Limits.{ROOM}
-use Rattle.calculus.specs.Syntax.{Connective, Sequent, size}
+use Rattle.calculus.specs.Syntax.{Sequent, size}
 use Rattle.sequent.specs.declared.Placing.{Placing}
-use Rattle.sequent.specs.declared.Rule.{Rule}
-use Rattle.sequent.specs.Rule.{rule_of, placings}
-use Rattle.sequent.proofs.Rows.{ten}
 
-pub each_drop : {X : Type 0} (Q : X → Type 0) (j : ℕ) (xs : List X) → Each Q xs → Each Q (drop j xs)
-each_drop Q zero xs h = h
-each_drop Q (suc j) [] h = tt
-each_drop Q (suc j) (x ∷ xs) h = each_drop Q j xs h.1
+-- no part placed: what a loop reads past the end of a rule
+abbrev pub nowhere : Placing
+nowhere = record { f = None; g = None }
 
--- one premise, or two
-pub record OneOrTwo (r : Rule) : Type 0 where
-  pub one : 1 ≤ r.premises
-  pub two : r.premises ≤ 2
+-- after j premises the next placing and the rest are left
+pub next : (r : List Placing) (j : ℕ) → j < length r → drop j r ≡ get_or r j nowhere ∷ drop (j + 1) r
+next r j h = drop-cons r j nowhere h ∙ ap (λ (n : ℕ). get_or r j nowhere ∷ drop n r) (sym (add-one j))
 
-pub one_or_two : (k : Connective) (s : Side) → OneOrTwo (rule_of k s)
-one_or_two k s =
-    ten k s
-    (λ h d. rw (h, d) (record { one = omega arith; two = omega arith }))
-    (λ h d. rw (h, d) (record { one = omega arith; two = omega arith }))
-    (λ h d. rw (h, d) (record { one = omega arith; two = omega arith }))
-    (λ h d. rw (h, d) (record { one = omega arith; two = omega arith }))
-    (λ h d. rw (h, d) (record { one = omega arith; two = omega arith }))
-    (λ h d. rw (h, d) (record { one = omega arith; two = omega arith }))
-    (λ h d. rw (h, d) (record { one = omega arith; two = omega arith }))
-    (λ h d. rw (h, d) (record { one = omega arith; two = omega arith }))
-    (λ h d. rw (h, d) (record { one = omega arith; two = omega arith }))
-    (λ h d. rw (h, d) (record { one = omega arith; two = omega arith }))
+-- after the last none
+pub next_ends : (r : List Placing) (j : ℕ) → length r ≤ j → drop j r ≡ []
+next_ends r j h = drop_of_length-le r {i = j} h
 
--- after j premises p is the next placing
-pub record Next (r : Rule) (j : ℕ) (p : Placing) : Type 0 where
-  pub low : j ≤ r.premises
-  pub next : j < r.premises → drop j (placings r) ≡ p ∷ drop (j + 1) (placings r)
-
-module _ (r : Rule) (few : OneOrTwo r) where
-  count : length (placings r) ≡ r.premises
-  count = go (eqb r.premises 2) refl
-    where
-      go : (b : Bool) → eqb r.premises 2 ≡ b → length (r.first ∷ choose b (r.second ∷ []) []) ≡ r.premises
-      go true t = omega (arith, eqb-true r.premises 2 t)
-      go false t = omega (arith, not_two r.premises few.one few.two (eqb-false r.premises 2 t))
-        where
-          not_two : (n : ℕ) → 1 ≤ n → n ≤ 2 → (n ≡ 2 → ⊥) → n ≡ 1
-          not_two n h k d = omega arith
-
-  pub next_starts : Next r 0 r.first
-  next_starts = record { low = omega arith; next = λ h. refl }
-
-  pub next_goes : (j : ℕ) (p : Placing) → Next r j p → j < r.premises → Next r (j + 1) r.second
-  next_goes j p n h = record { low = omega arith; next = λ k. second k }
-    where
-      second : j + 1 < r.premises → drop (j + 1) (placings r) ≡ r.second ∷ drop (j + 1 + 1) (placings r)
-      second k =
-          let z : j ≡ 0 = omega (arith, few.two) in
-          let w : r.premises ≡ 2 = omega (arith, few.two) in
-          rw (z, eq-eqb r.premises 2 w)
-
-  pub next_ends : (j : ℕ) → r.premises ≤ j → drop j (placings r) ≡ []
-  next_ends j h = drop_of_length-le (placings r) {i = j} (omega (arith, count))
-
-  -- what holds of each placing holds of the next
-  pub next_each : (Q : Placing → Type 0) → Each Q (placings r) → (j : ℕ) (p : Placing) → Next r j p → j < r.premises → Q p
-  next_each Q h j p n k = (rw (n.next k) at (each_drop Q j (placings r) h)).0
-
--- ---- the stores of the premises made so far
-
--- after j premises n places are stored, and p is the next placing
-pub record Summed (F : Placing → Sequent) (r : Rule) (j n : ℕ) (p : Placing) : Type 0 where
-  pub next : Next r j p
-  pub stores : n + fold SUM size (map F (drop j (placings r))) ≡ fold SUM size (map F (placings r))
+-- after j premises n places are stored
+pub record Summed (F : Placing → Sequent) (r : List Placing) (j n : ℕ) : Type 0 where
+  pub stores : n + fold SUM size (map F (drop j r)) ≡ fold SUM size (map F r)
   pub small : n ≤ ROOM * j
 
-module _ (F : Placing → Sequent) (r : Rule) (few : OneOrTwo r) where
-  pub sum_starts : Summed F r 0 0 r.first
-  sum_starts = record { next = next_starts r few; stores = omega arith; small = omega arith }
+module _ (F : Placing → Sequent) (r : List Placing) where
+  pub sum_starts : Summed F r 0 0
+  sum_starts = record { stores = omega arith; small = omega arith }
 
-  module _ (j n : ℕ) (p : Placing) (t : Summed F r j n p) where
-    pub sum_goes : j < r.premises → (m : ℕ) → m ≡ size (F p) → size (F p) ≤ ROOM → Summed F r (j + 1) (n + m) r.second
+  module _ (j n : ℕ) (t : Summed F r j n) where
+    pub sum_goes : j < length r → (m : ℕ) → m ≡ size (F (get_or r j nowhere)) → size (F (get_or r j nowhere)) ≤ ROOM → Summed F r (j + 1) (n + m)
     sum_goes h m e k =
         record {
-          next = next_goes r few j p t.next h;
-          stores = omega (arith, t.stores, e, ap (λ (ps : List Placing). fold SUM size (map F ps)) (t.next.next h));
+          stores = omega (arith, t.stores, e, ap (λ (ps : List Placing). fold SUM size (map F ps)) (next r j h));
           small = omega (arith, t.small, e);
         }
 
-    pub sum_ends : r.premises ≤ j → n ≡ fold SUM size (map F (placings r))
-    sum_ends h = omega (arith, t.stores, ap (λ (ps : List Placing). fold SUM size (map F ps)) (next_ends r few j h))
+    pub sum_ends : length r ≤ j → n ≡ fold SUM size (map F r)
+    sum_ends h = omega (arith, t.stores, ap (λ (ps : List Placing). fold SUM size (map F ps)) (next_ends r j h))

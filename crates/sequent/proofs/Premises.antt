@@ -137,12 +137,17 @@ module _ (s : Running) (old : List ℕ) (full : length old ≡ ROOM) (room : s.l
   }
 
   -- the names of both sides, less the one that makes way
-  pub premise_size : (t : Side) → at < count_of t s
+  premise_size : (t : Side) → at < count_of t s
       → size (premise t at (view s old) (placed p f g)) + 1 ≡ s.lefts + s.rights + length (parts_on Left p f g) + length (parts_on Right p f g)
   premise_size Left h =
       omega (arith, ap size (premise_runs Left h), sides_size (left_run Left) (right_run Left), splice_length 0 at s.lefts (parts_on Left p f g) old (omega arith) h (omega arith), end_length s.lefts (s.lefts + s.rights) (parts_on Right p f g) old (omega arith) (omega arith))
   premise_size Right h =
       omega (arith, ap size (premise_runs Right h), sides_size (left_run Right) (right_run Right), end_length 0 s.lefts (parts_on Left p f g) old (omega arith) (omega arith), splice_length s.lefts (s.lefts + at) (s.lefts + s.rights) (parts_on Right p f g) old (omega arith) (omega arith) (omega arith))
+
+  -- so they fit, if the premise does
+  pub premise_fits : (t : Side) → at < count_of t s → size (premise t at (view s old) (placed p f g)) ≤ ROOM
+      → s.lefts + s.rights + length (parts_on Left p f g) + length (parts_on Right p f g) ≤ ROOM + 1
+  premise_fits t h k = omega (arith, premise_size t h)
 
   module _ (t : Side) (h : at < count_of t s) {c : Pass} {l n : List ℕ} (stored : Stored (pass 0 0 0) c (s.lefts + s.rights) (run t) l n)
       (k : ℕ) (e : k ≡ length (left_run t)) where

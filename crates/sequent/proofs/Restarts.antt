@@ -12,9 +12,8 @@ use Rattle.calculus.specs.Limits.{ROOM, LETTERS}
 use Rattle.calculus.specs.Syntax.{Seq}
 use Rattle.calculus.specs.Table.{Put, on, premise}
 use Rattle.sequent.specs.declared.Running.{Running}
-use Rattle.sequent.specs.declared.Place.TheVariants.{At}
 use Rattle.sequent.specs.View.{view, count_of, slot_of, start_of}
-use Rattle.sequent.specs.Compounds.{first_in, Found}
+use Rattle.sequent.specs.Compounds.{first_in, FoundAt}
 use Rattle.sequent.proofs.Firsts.{first_compound, past_first}
 
 -- names that start a side start the list
@@ -37,12 +36,12 @@ module _ (s : Running) (old : List ℕ) (full : length old ≡ ROOM) (room : s.l
   right_count = length-take-le s.rights (drop s.lefts old) (omega (arith, length-drop s.lefts old))
 
   -- a premise may be made there
-  pub found_inside : (t : Side) (i : ℕ) → Found (view s old) (At t i) → i < count_of t s
+  pub found_inside : (t : Side) (i : ℕ) → FoundAt (view s old) t i → i < count_of t s
   found_inside Left i h = omega (arith, h.1, left_count)
   found_inside Right i h = omega (arith, h.2, right_count)
 
   -- its name is a compound's, at its place of the list
-  pub found_name : (t : Side) (i : ℕ) → Found (view s old) (At t i) → LETTERS ≤ get_or old (slot_of t i s) 0
+  pub found_name : (t : Side) (i : ℕ) → FoundAt (view s old) t i → LETTERS ≤ get_or old (slot_of t i s) 0
   found_name Left i h =
       let xs = (view s old).on_left in
       let f : LETTERS ≤ get_or xs i 0 = rw h.0 (first_compound xs (rw h.0 at h.1)) in
@@ -53,7 +52,7 @@ module _ (s : Running) (old : List ℕ) (full : length old ≡ ROOM) (room : s.l
       rw (get_or-take s.rights (drop s.lefts old) i 0 (omega (arith, found_inside Right i h)), get_or-drop s.lefts old i 0) at f
 
   -- what stands before the place is kept, and there is no compound in it
-  pub restarts : (t : Side) (i : ℕ) → Found (view s old) (At t i) → (ps : List (Put ℕ)) (r : Running) (new : List ℕ)
+  pub restarts : (t : Side) (i : ℕ) → FoundAt (view s old) t i → (ps : List (Put ℕ)) (r : Running) (new : List ℕ)
       → view r new ≡ premise t i (view s old) ps → (start_of t i s ≤ r.lefts) × (first_in (take (start_of t i s) new) ≡ start_of t i s)
   restarts Left i h ps r new e =
       let xs = take s.lefts old in

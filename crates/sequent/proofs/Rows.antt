@@ -2,65 +2,58 @@
 -- Assumes nothing.
 use mathlib.Core.Path.{◌≡◌, refl, sym, ap, ◌∙◌}
 use mathlib.Core.Bool.{Bool, true, false, ◌||◌, or-false}
-use mathlib.Core.List.{map}
-use Prim.Native.Nat.{ℕ, ◌+◌}
+use mathlib.Core.List.{List, [], ◌∷◌, map}
+use Prim.Native.Nat.{ℕ, ◌+◌, ◌≤◌}
+use native.Mathlib.Omega.{arith}
 use lib.Dec.{ltb}
+use lib.ListN.{length}
 use Rattle.calculus.specs.declared.Side.{Side}
 use Rattle.calculus.specs.declared.Side.TheVariants.{Left, Right}
+use Rattle.calculus.specs.Fold.{Each}
 use Rattle.calculus.specs.Limits.{ROOM}
 use Rattle.calculus.specs.Syntax.{AND, OR, IMPLIES, EQUIV, Connective, NOT, two, size}
 use Rattle.calculus.specs.Table.{table}
-use Rattle.sequent.specs.declared.Rule.{Rule}
+use Rattle.sequent.specs.declared.Placing.{Placing}
 use Rattle.sequent.specs.Rule.{rule_of, premise_of, premises_of, sided, overfull_of}
-
-pub ten : {Q : Type 0} (k : Connective) (s : Side)
-    → (k ≡ NOT → s ≡ Left → Q) → (k ≡ NOT → s ≡ Right → Q) → (k ≡ two AND → s ≡ Left → Q) → (k ≡ two AND → s ≡ Right → Q)
-    → (k ≡ two OR → s ≡ Left → Q) → (k ≡ two OR → s ≡ Right → Q) → (k ≡ two IMPLIES → s ≡ Left → Q) → (k ≡ two IMPLIES → s ≡ Right → Q)
-    → (k ≡ two EQUIV → s ≡ Left → Q) → (k ≡ two EQUIV → s ≡ Right → Q) → Q
-ten NOT Left a b c d e f g h i j = a refl refl
-ten NOT Right a b c d e f g h i j = b refl refl
-ten (two AND) Left a b c d e f g h i j = c refl refl
-ten (two AND) Right a b c d e f g h i j = d refl refl
-ten (two OR) Left a b c d e f g h i j = e refl refl
-ten (two OR) Right a b c d e f g h i j = f refl refl
-ten (two IMPLIES) Left a b c d e f g h i j = g refl refl
-ten (two IMPLIES) Right a b c d e f g h i j = h refl refl
-ten (two EQUIV) Left a b c d e f g h i j = i refl refl
-ten (two EQUIV) Right a b c d e f g h i j = j refl refl
 
 -- The rule of a connective on a side says what its row says.
 rule_row : (k : Connective) (s : Side) → premises_of (rule_of k s) ≡ map sided (table k s)
-rule_row k s =
-    ten k s
-    (λ h d. rw (h, d))
-    (λ h d. rw (h, d))
-    (λ h d. rw (h, d))
-    (λ h d. rw (h, d))
-    (λ h d. rw (h, d))
-    (λ h d. rw (h, d))
-    (λ h d. rw (h, d))
-    (λ h d. rw (h, d))
-    (λ h d. rw (h, d))
-    (λ h d. rw (h, d))
+rule_row NOT Left = refl
+rule_row NOT Right = refl
+rule_row (two AND) Left = refl
+rule_row (two AND) Right = refl
+rule_row (two OR) Left = refl
+rule_row (two OR) Right = refl
+rule_row (two IMPLIES) Left = refl
+rule_row (two IMPLIES) Right = refl
+rule_row (two EQUIV) Left = refl
+rule_row (two EQUIV) Right = refl
 
-pub rows_of : (k : Connective) (s : Side) (r : Rule) → r ≡ rule_of k s → premises_of r ≡ map sided (table k s)
+pub rows_of : (k : Connective) (s : Side) (r : List Placing) → r ≡ rule_of k s → premises_of r ≡ map sided (table k s)
 rows_of k s r e = ap premises_of e ∙ rule_row k s
 
--- Both premises of a rule place as many parts, so that the first tells whether there is room.
-pub first_tells : (k : Connective) (s : Side) (n : ℕ) → ltb (ROOM + 1) (n + size (premise_of (rule_of k s).first)) ≡ overfull_of (rule_of k s) n
-first_tells k s n =
-    ten k s
-    (λ h d. rw (h, d) (sym (or-false _)))
-    (λ h d. rw (h, d) (sym (or-false _)))
-    (λ h d. rw (h, d) (sym (or-false _)))
-    (λ h d. rw (h, d) (twice _))
-    (λ h d. rw (h, d) (twice _))
-    (λ h d. rw (h, d) (sym (or-false _)))
-    (λ h d. rw (h, d) (twice _))
-    (λ h d. rw (h, d) (sym (or-false _)))
-    (λ h d. rw (h, d) (twice _))
-    (λ h d. rw (h, d) (twice _))
+-- It has one premise or two.
+pub few_rows : (k : Connective) (s : Side) → (1 ≤ length (rule_of k s)) × (length (rule_of k s) ≤ 2)
+few_rows NOT Left = (omega arith, omega arith)
+few_rows NOT Right = (omega arith, omega arith)
+few_rows (two AND) Left = (omega arith, omega arith)
+few_rows (two AND) Right = (omega arith, omega arith)
+few_rows (two OR) Left = (omega arith, omega arith)
+few_rows (two OR) Right = (omega arith, omega arith)
+few_rows (two IMPLIES) Left = (omega arith, omega arith)
+few_rows (two IMPLIES) Right = (omega arith, omega arith)
+few_rows (two EQUIV) Left = (omega arith, omega arith)
+few_rows (two EQUIV) Right = (omega arith, omega arith)
+
+-- Where each premise of a rule places m parts, that tells whether there is room.
+tells : (r : List Placing) (n m : ℕ) → 1 ≤ length r → Each (λ p. size (premise_of p) ≡ m) r → ltb (ROOM + 1) (n + m) ≡ overfull_of r n
+tells [] n m h e = absurd (omega arith)
+tells (p ∷ []) n m h e = rw e.0 (sym (or-false _))
+tells (p ∷ q ∷ r) n m h e = rw (e.0, ← tells (q ∷ r) n m (omega arith) e.1) (twice _)
   where
     twice : (b : Bool) → b ≡ (b || b)
     twice true = refl
     twice false = refl
+
+pub alike_tells : (k : Connective) (s : Side) (n m : ℕ) → Each (λ p. size (premise_of p) ≡ m) (rule_of k s) → ltb (ROOM + 1) (n + m) ≡ overfull_of (rule_of k s) n
+alike_tells k s n m e = tells (rule_of k s) n m (few_rows k s).0 e

@@ -2,24 +2,23 @@
 -- formulas of these.
 -- Assumes nothing.
 use mathlib.Core.Path.{◌≡◌, refl, sym, ap, fun_ext, ◌∙◌}
-use mathlib.Core.Bool.{Bool, true, false, ◌||◌, or-false}
+use mathlib.Core.Bool.{Bool, true, false}
 use mathlib.Core.List.{List, [], ◌∷◌, ◌++◌, map, map-append}
 use Prim.Native.Nat.{ℕ, ◌+◌, ◌<◌}
 use native.Mathlib.Decide.{dec_lt}
 use native.Mathlib.Omega.{arith}
-use lib.Dec.{eqb, ltb}
+use lib.Dec.{ltb}
 use lib.ListN.{length, length-append, length-map}
 use borrow.Author.Tests.{lt-ltb, le-ltb}
 use Rattle.calculus.specs.declared.Side.{Side}
 use Rattle.calculus.specs.declared.Side.TheVariants.{Left, Right}
-use Rattle.calculus.specs.Fold.{fold, ANY, SUM, choose}
+use Rattle.calculus.specs.Fold.{fold, ANY, SUM}
 use Rattle.calculus.specs.Limits.{ROOM}
 use Rattle.calculus.specs.Syntax.{Formula, Compound, Seq, on_side, size}
 use Rattle.calculus.specs.Table.{Part, F, G, Put, L, R, table, fill, on, splice, premise, premises}
 use Rattle.calculus.proofs.Folds.{fold_map}
 use Rattle.sequent.specs.declared.Placing.{Placing}
-use Rattle.sequent.specs.declared.Rule.{Rule}
-use Rattle.sequent.specs.Rule.{keep, parts_on, premise_of, premises_of, sided, placed, placings, overfull_of}
+use Rattle.sequent.specs.Rule.{goes_to, keep, parts_on, premise_of, premises_of, sided, placed, overfull_of}
 use Rattle.sequent.proofs.Lists.{on_left, on_right, ones, map_splice, splice_size}
 use Rattle.sequent.specs.View.{named}
 
@@ -57,9 +56,9 @@ module _ {X : Type 0} (i : ℕ) (x y : X) (S : Seq X) where
 
   row_placed : (t : Side) (p : Placing) → premise t i S (placed p x y) ≡ row t i x y S (premise_of p)
   row_placed Left p =
-      rw (on_left (parts_on Left p x y) (parts_on Right p x y), on_right (parts_on Left p x y) (parts_on Right p x y), part_keep x y (eqb p.f 1) (eqb p.g 1), part_keep x y (eqb p.f 2) (eqb p.g 2))
+      rw (on_left (parts_on Left p x y) (parts_on Right p x y), on_right (parts_on Left p x y) (parts_on Right p x y), part_keep x y (goes_to Left p.f) (goes_to Left p.g), part_keep x y (goes_to Right p.f) (goes_to Right p.g))
   row_placed Right p =
-      rw (on_left (parts_on Left p x y) (parts_on Right p x y), on_right (parts_on Left p x y) (parts_on Right p x y), part_keep x y (eqb p.f 1) (eqb p.g 1), part_keep x y (eqb p.f 2) (eqb p.g 2))
+      rw (on_left (parts_on Left p x y) (parts_on Right p x y), on_right (parts_on Left p x y) (parts_on Right p x y), part_keep x y (goes_to Left p.f) (goes_to Left p.g), part_keep x y (goes_to Right p.f) (goes_to Right p.g))
 
   module _ {Y : Type 0} (φ : X → Y) where
     part_map : (ps : List Part) → map φ (map (part x y) ps) ≡ map (part (φ x) (φ y)) ps
@@ -90,13 +89,6 @@ one_more a b e = go (dec_lt ROOM a)
     go (yes h) = rw (lt-ltb ROOM a h, lt-ltb (ROOM + 1) b (omega arith))
     go (no h) = rw (le-ltb ROOM a (omega arith), le-ltb (ROOM + 1) b (omega arith))
 
-placings_rows : (r : Rule) → map premise_of (placings r) ≡ premises_of r
-placings_rows r = go (eqb r.premises 2)
-  where
-    go : (b : Bool) → map premise_of (r.first ∷ choose b (r.second ∷ []) []) ≡ premise_of r.first ∷ choose b (premise_of r.second ∷ []) []
-    go true = refl
-    go false = refl
-
 pub size_named : {X Y : Type 0} (φ : X → Y) (S : Seq X) → size (named φ S) ≡ size S
 size_named φ S =
     omega (arith, ones (map φ S.on_left), ones (map φ S.on_right), length-map S.on_left φ, length-map S.on_right φ, ones S.on_left, ones S.on_right)
@@ -110,25 +102,22 @@ module _ (φ : ℕ → Formula) (S : Seq ℕ) (t : Side) (i : ℕ) (f g : ℕ) (
   rows_filled [] = refl
   rows_filled (r ∷ rs) = rw (row_fill i x.f x.g (named φ S) t r, rows_filled rs)
 
-  module _ (r : Rule) (rows : premises_of r ≡ map sided (table x.connective t)) where
-    pub rule_premises : map (λ p. named φ (premise t i S (placed p f g))) (placings r) ≡ premises t i x (named φ S)
+  module _ (r : List Placing) (rows : premises_of r ≡ map sided (table x.connective t)) where
+    pub rule_premises : map (λ p. named φ (premise t i S (placed p f g))) r ≡ premises t i x (named φ S)
     rule_premises =
-        rows_named (placings r) ∙ ap (map (row t i x.f x.g (named φ S))) (placings_rows r ∙ rows) ∙ sym (rows_filled (table x.connective t))
+        rows_named r ∙ ap (map (row t i x.f x.g (named φ S))) rows ∙ sym (rows_filled (table x.connective t))
 
     -- "if a premise of the due reduction would hold more than 80 formulas"
     pub rule_full : i < length (on_side t S) → fold ANY (λ P. ltb ROOM (size P)) (premises t i x (named φ S)) ≡ overfull_of r (size S)
-    rule_full h = ap (fold ANY (λ P. ltb ROOM (size P))) (sym rule_premises) ∙ go (eqb r.premises 2)
+    rule_full h =
+        ap (fold ANY (λ P. ltb ROOM (size P))) (sym rule_premises)
+        ∙ fold_map ANY (λ P. ltb ROOM (size P)) (λ p. named φ (premise t i S (placed p f g))) r ∙ ap (λ (w : Placing → Bool). fold ANY w r) (fun_ext over)
       where
         over : (p : Placing) → ltb ROOM (size (named φ (premise t i S (placed p f g)))) ≡ ltb (ROOM + 1) (size S + size (premise_of p))
         over p = one_more (size (named φ (premise t i S (placed p f g)))) (size S + size (premise_of p)) (omega (arith, size_named φ (premise t i S (placed p f g)), placed_size i f g S t p h))
 
-        go : (b : Bool) → fold ANY (λ P. ltb ROOM (size P)) (map (λ p. named φ (premise t i S (placed p f g))) (r.first ∷ choose b (r.second ∷ []) []))
-            ≡ (ltb (ROOM + 1) (size S + size (premise_of r.first)) || choose b (ltb (ROOM + 1) (size S + size (premise_of r.second))) false)
-        go true = rw (over r.first, over r.second, or-false)
-        go false = rw (over r.first, or-false)
-
     -- the stores of all premises of a rule
-    pub rule_stores : fold SUM (λ p. size (premise t i S (placed p f g))) (placings r) ≡ fold SUM size (premises t i x (named φ S))
+    pub rule_stores : fold SUM (λ p. size (premise t i S (placed p f g))) r ≡ fold SUM size (premises t i x (named φ S))
     rule_stores =
-        ap (λ (h : Placing → ℕ). fold SUM h (placings r)) (fun_ext (λ p. sym (size_named φ (premise t i S (placed p f g)))))
-        ∙ sym (fold_map SUM size (λ p. named φ (premise t i S (placed p f g))) (placings r)) ∙ ap (fold SUM size) rule_premises
+        ap (λ (h : Placing → ℕ). fold SUM h r) (fun_ext (λ p. sym (size_named φ (premise t i S (placed p f g)))))
+        ∙ sym (fold_map SUM size (λ p. named φ (premise t i S (placed p f g))) r) ∙ ap (fold SUM size) rule_premises

@@ -1,5 +1,5 @@
 -- The first compound of a running sequent, compounds on both sides, and how a compound reduces.
-use Rattle.std.specs.Prelude.{◌≡◌, List, [], ◌∷◌, ℕ, suc, ◌+◌, ◌%◌, ◌≤◌, ◌<◌, ltb, length, take, get_or}
+use Rattle.std.specs.Prelude.{◌≡◌, Option, Some, None, List, [], ◌∷◌, ℕ, suc, ◌+◌, ◌%◌, ◌≤◌, ◌<◌, ltb, length, take, get_or}
 use Rattle.calculus.specs.declared.Side.{Side}
 use Rattle.calculus.specs.declared.Side.TheVariants.{Left, Right}
 use Rattle.calculus.specs.Fold.{Each, choose}
@@ -8,13 +8,10 @@ use Rattle.calculus.specs.Syntax.{NOT, two, Formula, letter, neg, join, Compound
 use Rattle.calculus.specs.Table.{premise, premises}
 use Rattle.calculus.specs.Tree.{Twins, unlike, alike}
 use Rattle.sequent.specs.declared.Placing.{Placing}
-use Rattle.sequent.specs.declared.Rule.{Rule}
 use Rattle.sequent.specs.declared.Running.{Running}
 use Rattle.sequent.specs.declared.Reduction.{Reduction}
 use Rattle.sequent.specs.declared.Pair.{Pair}
-use Rattle.sequent.specs.declared.Pair.TheVariants.{Both, Neither}
 use Rattle.sequent.specs.declared.Place.{Place}
-use Rattle.sequent.specs.declared.Place.TheVariants.{At, Nowhere}
 use Rattle.sequent.specs.Names.{formula_in, node_of, connective_of, first_of, second_of}
 use Rattle.sequent.specs.Rule.{rule_of, placed}
 use Rattle.sequent.specs.View.{view, count_of, name_at, named, sequent_of, Good}
@@ -31,20 +28,22 @@ pub record Clear (from : ℕ) (items : List ℕ) (s : Running) : Type 0 where
   pub inside : from ≤ s.lefts + s.rights
   pub letters : first_in (take from items) ≡ from
 
--- "the first formula with a connective, the left side before the right"
-abbrev pub Found : Seq ℕ → Place → Type 0
-Found N (At Left i) = (i ≡ first_in N.on_left) × (i < length N.on_left)
-Found N (At Right i) = (first_in N.on_left ≡ length N.on_left) × (i ≡ first_in N.on_right) × (i < length N.on_right)
-Found N Nowhere = (first_in N.on_left ≡ length N.on_left) × (first_in N.on_right ≡ length N.on_right)
+-- "the first formula with a connective, the left side before the right", at a place of a side
+abbrev pub FoundAt : Seq ℕ → Side → ℕ → Type 0
+FoundAt N Left i = (i ≡ first_in N.on_left) × (i < length N.on_left)
+FoundAt N Right i = (first_in N.on_left ≡ length N.on_left) × (i ≡ first_in N.on_right) × (i < length N.on_right)
+
+-- that, or there is none
+abbrev pub Found : Seq ℕ → Option Place → Type 0
+Found N (Some p) = FoundAt N p.side p.at
+Found N None = (first_in N.on_left ≡ length N.on_left) × (first_in N.on_right ≡ length N.on_right)
 
 -- ---- equal compounds
 
--- the first place of a name from `from` on and before n, or n
-pub record Stands (items : List ℕ) (from n d r : ℕ) : Type 0 where
-  pub after : from ≤ r
-  pub inside : r ≤ n
-  pub here : r < n → get_or items r 0 ≡ d
-  pub first : (k : ℕ) → from ≤ k → k < r → get_or items k 0 ≡ d → ⊥
+-- the first place of a name, or that it stands nowhere
+abbrev pub Stands : List ℕ → ℕ → Option ℕ → Type 0
+Stands xs d (Some j) = (j < length xs) × (get_or xs j 0 ≡ d) × ((k : ℕ) → k < j → get_or xs k 0 ≡ d → ⊥)
+Stands xs d None = (k : ℕ) → k < length xs → get_or xs k 0 ≡ d → ⊥
 
 -- a compound stands at this left place and at this right place
 pub record EqualAt (N : Seq ℕ) (i j : ℕ) : Type 0 where
@@ -54,14 +53,14 @@ pub record EqualAt (N : Seq ℕ) (i j : ℕ) : Type 0 where
   pub equal : name_at Left i N ≡ name_at Right j N
 
 -- "the lowest left place that has an equal on the right, with the lowest such right place"
-abbrev pub Paired : Seq ℕ → Pair → Type 0
-Paired N (Both i j) = EqualAt N i j × ((m n : ℕ) → EqualAt N m n → (i ≤ m) × (m ≡ i → j ≤ n))
-Paired N Neither = (m n : ℕ) → EqualAt N m n → ⊥
+abbrev pub Paired : Seq ℕ → Option Pair → Type 0
+Paired N (Some p) = EqualAt N p.left p.right × ((m n : ℕ) → EqualAt N m n → (p.left ≤ m) × (m ≡ p.left → p.right ≤ n))
+Paired N None = (m n : ℕ) → EqualAt N m n → ⊥
 
 -- document 02's pair
-abbrev pub twins_of : Pair → Twins
-twins_of (Both i j) = alike i j
-twins_of Neither = unlike
+abbrev pub twins_of : Option Pair → Twins
+twins_of (Some p) = alike p.left p.right
+twins_of None = unlike
 
 -- ---- a compound taken apart
 
@@ -83,7 +82,7 @@ abbrev pub reduction_at : List ℕ → Side → ℕ → Seq ℕ → Reduction
 reduction_at T t i N = record { side = t; at = i; node = node_of T (name_at t i N) }
 
 -- the row of the table that a reduction goes by
-abbrev pub rule_for : Reduction → Rule
+abbrev pub rule_for : Reduction → List Placing
 rule_for r = rule_of (connective_of (r.node % 256)) r.side
 
 -- ---- premises

@@ -1,5 +1,5 @@
 -- What a running sequent stands for.
-use Rattle.std.specs.Prelude.{◌≡◌, true, List, [], ◌∷◌, map, ℕ, ◌+◌, ◌%◌, ◌^◌, ◌≤◌, ltb, length, take, drop, get_or}
+use Rattle.std.specs.Prelude.{◌≡◌, true, Option, List, [], ◌∷◌, map, ℕ, ◌+◌, ◌%◌, ◌^◌, ◌≤◌, ltb, length, take, drop, get_or}
 use Rattle.std.specs.Int.Bits.{bit_or}
 use Rattle.calculus.specs.declared.Side.{Side}
 use Rattle.calculus.specs.declared.Side.TheVariants.{Left, Right}
@@ -10,7 +10,7 @@ use Rattle.calculus.specs.Truth.{bit}
 use Rattle.sequent.specs.declared.Placing.{Placing}
 use Rattle.sequent.specs.declared.Running.{Running}
 use Rattle.sequent.specs.Names.{formula_in, Known, Distinct}
-use Rattle.sequent.specs.Rule.{parts_on}
+use Rattle.sequent.specs.Rule.{goes_to, keep, parts_on}
 
 -- ---- names in places
 
@@ -91,6 +91,13 @@ Member a x = LETTERS ≤ x → bit (x % 64) a ≡ true
 -- each side's set holds its compounds, and maybe more
 abbrev pub Covered : Running → List ℕ → Type 0
 Covered s items = (t : Side) → Each (Member (set_of t s)) (on_side t (view s items))
+
+-- the bit of a part beside those of s, if it goes to a side, and as many places
+pub record With (to : Option Side) (name : ℕ) (s r : Running) : Type 0 where
+  pub on_left : r.lefts ≡ s.lefts
+  pub on_right : r.rights ≡ s.rights
+  pub masks : (t : Side) → mask_of t r ≡ bit_or (mask_of t s) (letters_of (keep (goes_to t to) name))
+  pub sets : (t : Side) → set_of t r ≡ bit_or (set_of t s) (compounds_of (keep (goes_to t to) name))
 
 -- so many places on each side, and the letters and compounds of a premise's parts beside those of s
 pub record Joined (lefts rights : ℕ) (p : Placing) (f g : ℕ) (s r : Running) : Type 0 where

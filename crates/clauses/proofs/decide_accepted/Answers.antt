@@ -1,17 +1,21 @@
-use Rattle.std.proofs.Common.{refl, sym, ◌∙◌, length}
+use Rattle.std.proofs.Common.{refl, sym, ap, ◌∙◌, length}
 use Rattle.calculus.specs.Bytes.{question}
-use Rattle.clauses.proofs.Answers.{right_formula}
+use Rattle.calculus.specs.Reply.{profile_reply}
+use Rattle.clauses.proofs.Answers.{left_profile, right_formula}
 use Rattle.clauses.proofs.Rights.{two_at_least, right_empty, right_there}
 use Rattle.clauses.proofs.decide_accepted.Goals as goal
 
 pub overflow_sub-tail : goal.overflow_sub-tail
-overflow_sub-tail c = two_at_least c.args.q.now c.requires
+overflow_sub-tail c = let q = c.args.q in two_at_least q.bytes.now q.accepted
 
-pub decide_left-requires : goal.decide_left-requires
-decide_left-requires c = (c.requires, right_empty c.args.q.now c.requires (c.if-q-tail.true ∙ c.head_of.ensures))
+pub returns-then-q-tail : goal.returns-then-q-tail
+returns-then-q-tail c =
+    let q = c.args.q in
+    c.decide_left.ensures ∙ ap profile_reply (left_profile (question q.bytes.now) (right_empty q.bytes.now q.accepted (c.if-q-tail.true ∙ c.head_of.ensures)))
 
 pub returns : goal.returns
 returns c =
-    let q = c.args.q.now in
-    right_formula (question q) c.side_start.result (length (question q).on_right) c.side_start.ensures refl
-    (right_there q c.requires (λ e. c.if-q-tail.false (e ∙ sym c.head_of.ensures)))
+    let q = c.args.q in
+    let s = question q.bytes.now in
+    right_formula s c.start.result (length s.on_right) c.start.ensures refl
+    (right_there q.bytes.now q.accepted (λ e. c.if-q-tail.false (e ∙ sym c.head_of.ensures)))

@@ -1,8 +1,8 @@
-use Rattle.std.proofs.Common.{sym}
 use Rattle.clauses.proofs.Answers.{promised}
 use Rattle.clauses.proofs.decide_clauses.Goals as goal
 
-pub returns-in-Accepted-clause-settles : goal.returns-in-Accepted-clause-settles
-returns-in-Accepted-clause-settles c =
+pub returns-clause-settles : goal.returns-clause-settles
+returns-clause-settles c =
+    let q = c.in_ok-read in
     let d = c.decide_accepted in
-    promised c.args.q.now (sym c.in-Accepted.ensures) d.result d.ensures
+    rw q.ensures.bytes at (promised q.field-0.bytes.now q.field-0.accepted d.result d.ensures)

@@ -1,9 +1,8 @@
-use Rattle.clauses.proofs.Tables.{round_next}
+use Rattle.std.proofs.Common.{◌∙◌, rules}
+use Rattle.std.proofs.lemmas.Fn.{fold_over, slice_gives, fronts}
+use Rattle.clauses.proofs.Rounds.{InRound, round_first, round_next}
 use Rattle.clauses.proofs.round.Goals as goal
 
-pub loop-i-preserved : goal.loop-i-preserved
-loop-i-preserved c =
-    let a = c.args in
-    let l = c.loop-i in
-    let f = c.fire-next in
-    round_next a.state a.negatives.now a.positives.now a.n l.next l.i f.result l.invariant c.loop-i-test.true f.ensures
+pub returns : goal.returns
+returns c cs e =
+    fold_over fronts (λ y. y.now) _ (InRound c.args.state) _ (λ ms a x b f i k. search (rules, round_next)) c.iter.result _ _ _ (slice_gives c.iter.result) (round_first c.args.state) c.fold.ensures.ran cs (c.iter.ensures.rest ∙ e)

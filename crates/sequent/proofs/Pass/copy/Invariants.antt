@@ -1,9 +1,6 @@
-use Rattle.std.proofs.Common.{◌-◌}
-use Rattle.sequent.proofs.Passes.{Copied}
+use lib.Seq.{slice}
+use Rattle.sequent.specs.Passes.{Stored}
 use Rattle.sequent.proofs.Pass.copy.Given as goal
 
 abbrev pub invariant-loop-i : goal.invariant-loop-i
-invariant-loop-i l = Copied l.old l.initial.new l.fn.self.from l.fn.self.to l.fn.self.stores l.end l.new l.i l.j l.stores
-
-abbrev pub decreases-loop-i : goal.decreases-loop-i
-decreases-loop-i l = l.end - l.i
+invariant-loop-i l = Stored l.fn.self l.a l.fn.self.from (slice l.fn.self.from l.i l.old) l.initial.new l.new

@@ -1,24 +1,30 @@
-use Rattle.std.proofs.Common.{arith}
-use Rattle.sequent.proofs.Firsts.{found_left, found_right, found_nowhere}
+use Rattle.std.proofs.Common.{◌≡◌, ◌+◌, arith}
+use Rattle.sequent.proofs.Firsts.{first_here, first_none, found_left, found_right, found_nowhere}
 use Rattle.sequent.proofs.Running.first_compound.Goals as goal
-
-pub returns-then-i-n : goal.returns-then-i-n
-returns-then-i-n c =
-    let a = c.args in
-    let h = c.requires in
-    let f = c.first_from-i in
-    found_nowhere a.self a.items.now h.1 h.0 a.from f.result h.2.inside h.2.letters f.ensures.0 (omega (arith, c.if-i-n.true)) c.if-i-n.true
 
 pub returns-then-i-self : goal.returns-then-i-self
 returns-then-i-self c =
     let a = c.args in
     let h = c.requires in
-    let f = c.first_from-i in
-    found_left a.self a.items.now h.1 h.0 a.from f.result h.2.inside h.2.letters f.ensures.0 c.if-i-self.true
+    let i = c.loop-i.i in
+    let n = a.self.lefts + a.self.rights in
+    found_left a.self a.items.now c.told-items h.0 a.from i h.1.inside h.1.letters
+    (omega (arith, c.loop-i.invariant, first_here a.items.now i n c.loop-i-test.true (omega (arith, h.0, c.told-items)) c.if-items-i-ge-LETTERS.true)) c.if-i-self.true
+
+pub returns-else-i-self : goal.returns-else-i-self
+returns-else-i-self c =
+    let a = c.args in
+    let h = c.requires in
+    let i = c.loop-i.i in
+    let n = a.self.lefts + a.self.rights in
+    found_right a.self a.items.now c.told-items h.0 a.from i h.1.inside h.1.letters
+    (omega (arith, c.loop-i.invariant, first_here a.items.now i n c.loop-i-test.true (omega (arith, h.0, c.told-items)) c.if-items-i-ge-LETTERS.true)) c.if-i-self.false c.loop-i-test.true
 
 pub returns : goal.returns
 returns c =
     let a = c.args in
     let h = c.requires in
-    let f = c.first_from-i in
-    found_right a.self a.items.now h.1 h.0 a.from f.result h.2.inside h.2.letters f.ensures.0 c.if-i-self.false (omega (arith, f.ensures.1, c.if-i-n.false))
+    let i = c.loop-i.i in
+    let n = a.self.lefts + a.self.rights in
+    let e : i ≡ n = omega (arith, c.loop-i.auto.i-end, h.1.inside) in
+    found_nowhere a.self a.items.now c.told-items h.0 a.from i h.1.inside h.1.letters (omega (arith, c.loop-i.invariant, first_none a.items.now i n e)) (omega arith) e
