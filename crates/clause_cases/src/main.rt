@@ -2,19 +2,19 @@
 // and from the first, numbers 13 to 15 in their order, and refused questions.
 #![tactic(auto)]
 
-use clauses::Answer;
+use clauses::{ClauseVerdict, NotClauses};
 use print::Refused;
 use std::io;
 
 // One line: what the call answers.
 fn ask(rt: &impl Print, q: &[u8]) -> io::Result<()> {
     match clauses::decide_clauses(q) {
-        Answer::Refused(r) => print!(rt; "{}", Refused(r)),
-        Answer::RightFormula(at) => println!(rt; "right formula 13 {at}"),
-        Answer::NotClause(at) => println!(rt; "not clause 14 {at}"),
-        Answer::ManyPositive(at) => println!(rt; "many positive 15 {at}"),
-        Answer::Theorem(rounds) => println!(rt; "theorem {rounds}"),
-        Answer::Refuted(state, rounds) => println!(rt; "refuted {state} {rounds}"),
+        Ok(ClauseVerdict::Theorem(rounds)) => println!(rt; "theorem {rounds}"),
+        Ok(ClauseVerdict::Refuted(state, rounds)) => println!(rt; "refuted {state} {rounds}"),
+        Err(NotClauses::Refused(r)) => print!(rt; "{}", Refused(r)),
+        Err(NotClauses::RightFormula(at)) => println!(rt; "right formula 13 {at}"),
+        Err(NotClauses::NotClause(at)) => println!(rt; "not clause 14 {at}"),
+        Err(NotClauses::ManyPositive(at)) => println!(rt; "many positive 15 {at}"),
     }
 }
 
