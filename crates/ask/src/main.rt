@@ -84,7 +84,8 @@ fn input() -> [u8; INPUT]
     [0; INPUT]
 }
 
-// Reads until the buffer is full or the input ends; answers the part of the buffer that was read.
+// Reads until the buffer is full or the input ends; answers the part of the buffer that was read. Over `take` and `read_to_end`
+// the proof doesn't close: std says neither that no more comes than was asked for, nor what the reader then has left.
 fn read_full<'a, R: Read>(from: &mut R, buffer: &'a mut [u8]) -> io::Result<&'a [u8]>
     ensures fits { IfOk result (λ q. length q.now ≤ length buffer.old) }
     ensures bytes { IfOk result (λ q. Consumes (R.remaining from.old) (R.remaining from.new) q.now) }
