@@ -3,15 +3,15 @@
 #![tactic(auto)]
 
 use print::{Hexadecimal, Refused};
-use spelling::Spelling;
+use spelling::NotSpelled;
 use std::io;
 
 // One line: what the call answered.
-fn answer(rt: &impl Print, a: Spelling) -> io::Result<()> {
+fn answer(rt: &impl Print, a: Result<usize, NotSpelled>) -> io::Result<()> {
     match a {
-        Spelling::Refused(r) => print!(rt; "{}", Refused(r)),
-        Spelling::NoSpace(n) => println!(rt; "no space 11 {n}"),
-        Spelling::Spelled(n) => println!(rt; "spelled {n}"),
+        Ok(n) => println!(rt; "spelled {n}"),
+        Err(NotSpelled::Refused(r)) => print!(rt; "{}", Refused(r)),
+        Err(NotSpelled::NoSpace(n)) => println!(rt; "no space 11 {n}"),
     }
 }
 
@@ -90,22 +90,13 @@ fn refused(rt: &impl Print) -> io::Result<()> {
     lend(rt, b"\x10\x01\x01\x02\x20\x00\x01", &mut none)
 }
 
-// The first n bytes of a buffer, spelled.
-fn spell_first(rt: &impl Print, buffer: &[u8], n: usize) -> io::Result<()> {
-    if n <= buffer.len() {
-        spell(rt, &buffer[0..n])?;
-    }
-    Ok(())
-}
-
 // The spelling of a spelling.
 fn again(rt: &impl Print, q: &[u8]) -> io::Result<()> {
     let mut buffer = [0x99u8; 16];
-    let a = spelling::spell(q, &mut buffer);
-    if let Spelling::Spelled(n) = a {
-        spell_first(rt, &buffer, n)?;
+    match spelling::spell(q, &mut buffer) {
+        Ok(n) => spell(rt, &buffer[..n]),
+        Err(_) => Ok(()),
     }
-    Ok(())
 }
 
 fn main(rt: HostRuntime) -> io::Result<()> {

@@ -3,16 +3,16 @@
 #![tactic(auto)]
 
 use print::{Line, Refused};
-use states::Listing;
+use states::NotListed;
 use std::io;
 
 // One line: what the call answered.
-fn answer(rt: &impl Print, a: Listing) -> io::Result<()> {
+fn answer(rt: &impl Print, a: Result<usize, NotListed>) -> io::Result<()> {
     match a {
-        Listing::Refused(r) => print!(rt; "{}", Refused(r)),
-        Listing::ManyLetters(n) => println!(rt; "many letters 12 {n}"),
-        Listing::NoSpace(n) => println!(rt; "no space 11 {n}"),
-        Listing::Listed(n) => println!(rt; "listed {n}"),
+        Ok(n) => println!(rt; "listed {n}"),
+        Err(NotListed::Refused(r)) => print!(rt; "{}", Refused(r)),
+        Err(NotListed::ManyLetters(n)) => println!(rt; "many letters 12 {n}"),
+        Err(NotListed::NoSpace(n)) => println!(rt; "no space 11 {n}"),
     }
 }
 
