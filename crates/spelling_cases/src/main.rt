@@ -93,10 +93,12 @@ fn refused(rt: &impl Print) -> io::Result<()> {
 // The spelling of a spelling.
 fn again(rt: &impl Print, q: &[u8]) -> io::Result<()> {
     let mut buffer = [0x99u8; 16];
-    match spelling::spell(q, &mut buffer) {
-        Ok(n) => spell(rt, &buffer[..n]),
-        Err(_) => Ok(()),
+    if let Ok(n) = spelling::spell(q, &mut buffer)
+        && let Some(spelled) = buffer.get(..n)
+    {
+        spell(rt, spelled)?;
     }
+    Ok(())
 }
 
 fn main(rt: HostRuntime) -> io::Result<()> {
