@@ -165,9 +165,9 @@ fn write_out(
     requires { IsTheorem (question q.bytes.now) v pairings }
     ensures { WrittenOut (question q.entry.bytes.now) v buffer.old buffer.new result }
 {
-    let needed = 2 * (v.reductions + v.closings) + pairings;
-    if (buffer.len() as u64) < needed {
-        return Err(NotWritten::NoSpace(needed));
+    let length = 2 * (v.reductions + v.closings) + pairings;
+    if (buffer.len() as u64) < length {
+        return Err(NotWritten::NoSpace(length));
     }
     let mut nodes = [0u32; 48];
     let mut items = [0u8; 80];
@@ -177,10 +177,7 @@ fn write_out(
         items: &items,
     };
     emit(t, s, 0, buffer);
-    Ok(Written {
-        length: needed,
-        verdict: v,
-    })
+    Ok(Written { length, verdict: v })
 }
 
 // Decides a question, and writes the derivation of a theorem.

@@ -15,17 +15,17 @@ use Rattle.writer.proofs.write_out.Goals as goal
 short : (q : Question) (v : Verdict) (n : ℕ) → IsTheorem (question q.bytes.now) v n → 2 * (v.reductions + v.closings) + n < 2 ^ 64
 short q v n t = omega (arith, needed_small (question q.bytes.now) v n t (accepted_question q.bytes.now q.accepted).0.connectives)
 
-pub overflow_add-needed : goal.overflow_add-needed
-overflow_add-needed c = omega (arith, short c.args.q c.args.v c.args.pairings c.requires)
+pub overflow_add-length : goal.overflow_add-length
+overflow_add-length c = omega (arith, short c.args.q c.args.v c.args.pairings c.requires)
 
-pub overflow_mul-needed : goal.overflow_mul-needed
-overflow_mul-needed c = omega (arith, short c.args.q c.args.v c.args.pairings c.requires)
+pub overflow_mul-length : goal.overflow_mul-length
+overflow_mul-length c = omega (arith, short c.args.q c.args.v c.args.pairings c.requires)
 
-pub overflow_add-needed-2 : goal.overflow_add-needed-2
-overflow_add-needed-2 c = omega (arith, short c.args.q c.args.v c.args.pairings c.requires)
+pub overflow_add-length-2 : goal.overflow_add-length-2
+overflow_add-length-2 c = omega (arith, short c.args.q c.args.v c.args.pairings c.requires)
 
-pub returns-then-buffer-needed : goal.returns-then-buffer-needed
-returns-then-buffer-needed c = no_space_lem (question c.args.q.bytes.now) c.args.v c.args.pairings c.requires c.args.buffer.now _ refl c.if-buffer-needed.true
+pub returns-then-buffer-length : goal.returns-then-buffer-length
+returns-then-buffer-length c = no_space_lem (question c.args.q.bytes.now) c.args.v c.args.pairings c.requires c.args.buffer.now _ refl c.if-buffer-length.true
 
 pub emit-requires : goal.emit-requires
 emit-requires c =
@@ -35,12 +35,12 @@ emit-requires c =
       r.0,
       record { inside = omega arith; letters = refl },
       ap (λ (P : Sequent). (tree P).end) r.1 ∙ c.requires.proved,
-      omega (arith, ap (λ (P : Sequent). length (derivation P)) r.1, long, c.if-buffer-needed.false),
+      omega (arith, ap (λ (P : Sequent). length (derivation P)) r.1, long, c.if-buffer-length.false),
     )
 
 pub returns : goal.returns
 returns c =
     let a = c.args in
     let all = c.emit.ensures.1 ∙ ap (λ (P : Sequent). sets a.buffer.now 0 (derivation P)) c.root-s.ensures.1 in
-    let left = c.if-buffer-needed.false in
+    let left = c.if-buffer-length.false in
     space (question a.q.bytes.now) a.v a.pairings c.requires a.buffer.now _ _ refl (omega (arith, left)) all
