@@ -29,24 +29,6 @@ use Rattle.prover.specs.Inner.{ReadyAt}
 
 -- ---- FULL
 
--- the digits of the parts placed, by side
-abbrev pub row_of : Side → ℕ
-row_of Left = 0x2112100
-row_of Right = 0x2221100
-
--- they are the table's
-pub digit_placed : (k : Connective) (s : Side) → Each (λ p. size (premise_of p) ≡ row_of s / 2 ^ (4 * code (CONNECTIVE k)) % 16) (rule_of k s)
-digit_placed NOT Left = (refl, tt)
-digit_placed NOT Right = (refl, tt)
-digit_placed (two AND) Left = (refl, tt)
-digit_placed (two AND) Right = (refl, (refl, tt))
-digit_placed (two OR) Left = (refl, (refl, tt))
-digit_placed (two OR) Right = (refl, tt)
-digit_placed (two IMPLIES) Left = (refl, (refl, tt))
-digit_placed (two IMPLIES) Right = (refl, tt)
-digit_placed (two EQUIV) Left = (refl, (refl, tt))
-digit_placed (two EQUIV) Right = (refl, (refl, tt))
-
 -- no premise is over the room
 each_within : (Ps : List Sequent) → fold ANY (λ P. ltb ROOM (size P)) Ps ≡ false → Each (λ P. size P ≤ ROOM) Ps
 each_within [] h = tt

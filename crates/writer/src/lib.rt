@@ -9,17 +9,17 @@ ghost use Rattle.calculus.specs.Bytes.{CONNECTIVE, code, question};
 ghost use Rattle.calculus.specs.Derivation.{PAIR, REDUCE, order_code, derivation};
 ghost use Rattle.calculus.specs.Reply.{derive};
 ghost use Rattle.calculus.specs.Tree.{tree};
-ghost use Rattle.sequent.specs.declared.Place.TheVariants.{At};
 ghost use Rattle.sequent.specs.View.{view, sequent_of, Good};
-ghost use Rattle.sequent.specs.Compounds.{Clear, Found, premises_at, premise_by, Makes};
+ghost use Rattle.sequent.specs.Compounds.{Clear, FoundAt, premises_at, premise_by, Makes};
 ghost use Rattle.prover.specs.Inner.{First};
+ghost use Rattle.writer.specs.declared.NotWritten.TheVariants.{Refused};
 ghost use Rattle.writer.specs.Answers.{answer_of, IsTheorem, WrittenOut, Evidence};
 ghost use Rattle.writer.specs.Emits.{Provable, derivations, Emits};
 
 use calculus::{Kind, Side, Verdict};
 use prover::Finding;
 use question::{Question, Refusal};
-use sequent::{Placing, Reduction, Running};
+use sequent::{Names, Placing, Reduction, Running};
 
 // A derivation that is written: its length, and the verdict.
 #[derive(Clone, Copy)]
@@ -39,7 +39,7 @@ pub enum NotWritten {
 }
 
 impl From<Refusal> for NotWritten {
-    ghost from_gives = { λ r e. e ≡ NotWritten.Refused r };
+    ghost from_gives = { λ r e. e ≡ Refused r };
 
     fn from(r: Refusal) -> NotWritten {
         NotWritten::Refused(r)
@@ -86,21 +86,21 @@ fn command_of(side: Side, b: u8) -> u8
 
 // The derivation of a theorem; answers its length. Letters alone stand before place `from`.
 #[cycle(emit_emit_premise_emit_premises)]
-fn emit(nodes: &[u32; 48], items: &[u8; 80], s: Running, from: usize, out: &mut [u8]) -> usize
-    requires { Good nodes.now items.now s
-        × Clear from items.now s
-        × ((tree (sequent_of nodes.now items.now s)).end ≡ Kind.Theorem)
-        × (length (derivation (sequent_of nodes.now items.now s)) ≤ length out.old) }
-    ensures { (result ≡ length (derivation (sequent_of nodes.now items.now s)))
-        × (out.new ≡ sets out.old 0 (derivation (sequent_of nodes.now items.now s))) }
+fn emit(t: Names<'_>, s: Running, from: usize, out: &mut [u8]) -> usize
+    requires { Good t.nodes.now t.items.now s
+        × Clear from t.items.now s
+        × Provable (sequent_of t.nodes.now t.items.now s)
+        × (length (derivation (sequent_of t.nodes.now t.items.now s)) ≤ length out.old) }
+    ensures { (result ≡ length (derivation (sequent_of t.entry.nodes.now t.entry.items.now s)))
+        × (out.new
+        ≡ sets out.old 0 (derivation (sequent_of t.entry.nodes.now t.entry.items.now s))) }
 {
-    let due = prover::step(nodes, items, s, from, 1);
-    match due {
+    match prover::step(t, s, from, 1) {
         Finding::Closed(k) => put(out, 0x41, k as u8),
         Finding::Paired(i, j) => put_pair(out, i as u8, j as u8),
         Finding::Reduce(r) => {
             let n = put(out, command_of(r.side, r.command()), r.at as u8);
-            n + emit_premises(nodes, items, s, r, &mut out[n..]).length
+            n + emit_premises(t, s, r, &mut out[n..]).length
         }
         _ => 0,
     }
@@ -108,28 +108,22 @@ fn emit(nodes: &[u32; 48], items: &[u8; 80], s: Running, from: usize, out: &mut 
 
 // A premise of the reduction, made, and its derivation.
 #[cycle(emit_emit_premise_emit_premises)]
-fn emit_premise(
-    nodes: &[u32; 48],
-    items: &[u8; 80],
-    s: Running,
-    r: Reduction,
-    p: Placing,
-    out: &mut [u8],
-) -> Emitted
-    requires { Makes nodes.now items.now s r p
-        × Found (view s items.now) (At r.side r.at)
-        × Provable (premise_by nodes.now items.now s r p)
-        × (length (derivation (premise_by nodes.now items.now s r p)) ≤ length out.old) }
+fn emit_premise(t: Names<'_>, s: Running, r: Reduction, p: Placing, out: &mut [u8]) -> Emitted
+    requires { Makes t.nodes.now t.items.now s r p
+        × FoundAt (view s t.items.now) r.side r.at
+        × Provable (premise_by t.nodes.now t.items.now s r p)
+        × (length (derivation (premise_by t.nodes.now t.items.now s r p)) ≤ length out.old) }
     ensures { Emits
-        (derivation (premise_by nodes.now items.now s r p))
-        (size (premise_by nodes.now items.now s r p))
+        (derivation (premise_by t.entry.nodes.now t.entry.items.now s r p))
+        (size (premise_by t.entry.nodes.now t.entry.items.now s r p))
         out.old
         out.new
         result }
 {
     let mut next = [0u8; 80];
-    let made = s.premise(items, &mut next, r, p);
-    let length = emit(nodes, &next, made.running, s.start(r.side, r.at), out);
+    let made = s.premise(t.items, &mut next, r, p);
+    let t = Names { items: &next, ..t };
+    let length = emit(t, made.running, s.start(r.side, r.at), out);
     Emitted {
         length,
         stores: made.stores,
@@ -138,35 +132,24 @@ fn emit_premise(
 
 // The whole derivation of the first premise, then that of the second.
 #[cycle(emit_emit_premise_emit_premises)]
-fn emit_premises(
-    nodes: &[u32; 48],
-    items: &[u8; 80],
-    s: Running,
-    r: Reduction,
-    out: &mut [u8],
-) -> Emitted
-    requires { First nodes.now items.now s r
-        × Each Provable (premises_at nodes.now items.now s r)
-        × (length (derivations (premises_at nodes.now items.now s r)) ≤ length out.old) }
+fn emit_premises(t: Names<'_>, s: Running, r: Reduction, out: &mut [u8]) -> Emitted
+    requires { First t.nodes.now t.items.now s r
+        × Each Provable (premises_at t.nodes.now t.items.now s r)
+        × (length (derivations (premises_at t.nodes.now t.items.now s r)) ≤ length out.old) }
     ensures { Emits
-        (derivations (premises_at nodes.now items.now s r))
-        (fold SUM size (premises_at nodes.now items.now s r))
+        (derivations (premises_at t.entry.nodes.now t.entry.items.now s r))
+        (fold SUM size (premises_at t.entry.nodes.now t.entry.items.now s r))
         out.old
         out.new
         result }
 {
     let rule = r.rule();
-    let n = rule.premises;
-    let mut p = rule.first;
     let mut length = 0;
     let mut stores = 0;
-    let mut j = 0;
-    while j < n {
-        let e = emit_premise(nodes, items, s, r, p, &mut out[length..]);
+    for &p in rule {
+        let e = emit_premise(t, s, r, p, &mut out[length..]);
         length += e.length;
         stores += e.stores;
-        p = rule.second;
-        j += 1;
     }
     Emitted { length, stores }
 }
@@ -182,18 +165,19 @@ fn write_out(
     requires { IsTheorem (question q.bytes.now) v pairings }
     ensures { WrittenOut (question q.entry.bytes.now) v buffer.old buffer.new result }
 {
-    let needed = 2 * (v.reductions + v.closings) + pairings;
-    if (buffer.len() as u64) < needed {
-        return Err(NotWritten::NoSpace(needed));
+    let length = 2 * (v.reductions + v.closings) + pairings;
+    if (buffer.len() as u64) < length {
+        return Err(NotWritten::NoSpace(length));
     }
     let mut nodes = [0u32; 48];
     let mut items = [0u8; 80];
     let s = names::root(q, &mut nodes, &mut items);
-    emit(&nodes, &items, s, 0, buffer);
-    Ok(Written {
-        length: needed,
-        verdict: v,
-    })
+    let t = Names {
+        nodes: &nodes,
+        items: &items,
+    };
+    emit(t, s, 0, buffer);
+    Ok(Written { length, verdict: v })
 }
 
 // Decides a question, and writes the derivation of a theorem.

@@ -41,7 +41,7 @@ pub reduce-returns-after-loop-p : goal.reduce-returns-after-loop-p
 reduce-returns-after-loop-p t c = ahead_ends c.loop-p.invariant c.loop-p-test.false
 
 pub reduce-returns-in_default : goal.reduce-returns-in_default
-reduce-returns-in_default t c = ahead_stops c.loop-p.invariant c.loop-p-test.true c.run_premise-m.ensures c.in_default.not-Theorem
+reduce-returns-in_default t c = ahead_stops c.loop-p.invariant c.loop-p-test.true c.run_premise-m.ensures (search rules)
 
 -- ---- the run
 
