@@ -23,7 +23,7 @@ ghost use Rattle.gekunday.specs.Words.{formula_words};
 use calculus::{Kind, Part, Side, Verdict};
 use checker::NotPassed;
 use clauses::{ClauseVerdict, NotClauses};
-use question::Refusal;
+use question::{Question, Refusal};
 use spelling::NotSpelled;
 use states::NotListed;
 use width::Measure;
@@ -300,8 +300,8 @@ pub fn gekunday_decide(q: &[u8], budget: u64, out: &mut [u64; 4]) -> u32
     ensures number { result ≡ (decide_reply q.now budget).number }
     ensures words { out.new ≡ decide_words q.now budget }
 {
-    match prover::decide(q, budget) {
-        Ok(v) => Words::from(v).leave(out),
+    match Question::read(q) {
+        Ok(q) => Words::from(prover::verdict_of(q, budget)).leave(out),
         Err(r) => Words::from(r).leave(out),
     }
 }
