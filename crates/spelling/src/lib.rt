@@ -16,7 +16,8 @@ use calculus::Side;
 use question::{ALL_FORMULAS, Question, Refusal};
 use std::marker::Model;
 
-// Where a formula is among others that ascend, or else where it belongs.
+// Where a formula is among others that ascend, or else where it belongs. From the front, since by halves (`binary_search`) it
+// took spelling 1.2 to 1.4 times as long where a side has many formulas.
 fn spot_of(items: &[&[u8]], x: &[u8]) -> Result<usize, usize>
     ensures { let old = map (λ f. f.now) items.now in let new = insert (λ l. l) x.now old in MatchResult result
         (λ i. new ≡ old)
@@ -31,7 +32,7 @@ fn spot_of(items: &[&[u8]], x: &[u8]) -> Result<usize, usize>
     }
 }
 
-// Formulas by their bytes: ascending, equal ones once.
+// Formulas by their bytes, ascending, equal ones once: the first n of an array, since there is no heap.
 #[derive(Drop)]
 struct Arranged<'a> {
     items: [&'a [u8]; ALL_FORMULAS],
@@ -70,6 +71,7 @@ impl<'a> Arranged<'a> {
         }
     }
 
+    // As a slice.
     fn formulas(&self) -> &[&'a [u8]]
         ensures few { length result.now ≤ FORMULAS }
         ensures are { map (λ f. f.now) result.now ≡ self.now }
