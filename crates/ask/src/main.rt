@@ -1,21 +1,22 @@
 // Decides the question on standard input, and prints its verdict and a theorem's derivation.
 #![tactic(auto)]
 
-ghost use Rattle.std.specs.Prelude.{◌≡◌, ◌++◌, ◌+◌, ◌*◌, ◌<◌, ◌≤◌, length, take, drop, IfOk};
+ghost use Rattle.std.specs.Prelude.{◌≡◌, ◌+◌, ◌*◌, ◌<◌, ◌≤◌, length, take, IfOk, string_bytes};
 ghost use Rattle.std.specs.Io.KnownBytes.{Consumes, IsAtEnd};
 ghost use Rattle.calculus.specs.Bytes.{question};
 ghost use Rattle.calculus.specs.Derivation.{derivation};
 ghost use Rattle.calculus.specs.Reading.{reading, accepted};
 ghost use Rattle.calculus.specs.Tree.{verdict};
-ghost use Rattle.print.specs.Text.{Printed};
 ghost use Rattle.ask.specs.Output as defined;
 ghost use Rattle.ask.specs.Output.{derivation_line, verdict_text, ask_text};
 
 use calculus::{Kind, Verdict};
+use print::{Hexadecimal, Refused};
+use std::alloc::{AllocError, Global};
 use std::io;
 use std::io::Read;
 
-// The four constants stand in specs/Output.antt, too: the clauses name those, as `defined.INPUT`.
+// The three constants stand in specs/Output.antt, too: the clauses name those, as `defined.INPUT`.
 
 // The bytes read: those of the longest question, and one more.
 const INPUT: usize = question::LONGEST_QUESTION + 1;
@@ -25,63 +26,54 @@ const BUDGET: u64 = 1000000;
 // The bytes of the derivation's buffer.
 const BUFFER: usize = 4096;
 
-// The bytes of the longest text: a line of a word and four numbers, and the derivation's.
-const TEXT: usize = 100 + 3 * BUFFER;
-
 // A theorem's second line: its derivation in hexadecimal, or `no space`.
-fn put_derivation(q: &[u8], out: &mut [u8], at: usize) -> usize
-    requires q_value { (reading q.now ≡ accepted) × ((verdict defined.BUDGET (question q.now)).kind ≡ Kind.Theorem) }
-    requires at_in_bounds { at + 3 * defined.BUFFER + 9 ≤ length out.old }
-    ensures short { result ≤ at + 3 * defined.BUFFER + 9 }
-    ensures text { Printed out.old at
-        (derivation_line (derivation (question q.now)))
-        result out.new }
+fn derivation_line(alloc: Global, q: &[u8]) -> Result<String, AllocError>
+    requires { (reading q.now ≡ accepted) × ((verdict defined.BUDGET (question q.now)).kind ≡ Kind.Theorem) }
+    ensures { IfOk result (λ s. string_bytes s ≡ derivation_line (derivation (question q.now))) }
 {
     let mut buffer = [0u8; BUFFER];
     let answer = writer::derive(q, BUDGET, &mut buffer);
     match answer {
         writer::Writing::Written(n, _) => {
             let end = n as usize;
-            print::put_bytes(&buffer[..end], out, at)
+            format!(in alloc; "{}\n", Hexadecimal(&buffer[..end]))
         }
-        _ => print::put_word(b"no space\n", out, at),
+        _ => String::from_str(alloc, "no space\n"),
     }
 }
 
 // The text for an accepted question.
-fn put_verdict(q: &[u8], v: Verdict, w: u64, out: &mut [u8]) -> usize
-    requires { (reading q.now ≡ accepted) × (v ≡ verdict defined.BUDGET (question q.now)) × (defined.TEXT ≤ length out.old) }
-    ensures short { result ≤ defined.TEXT }
-    ensures text { Printed out.old 0
-        (verdict_text v.kind v.reductions v.closings w (derivation (question q.now)))
-        result out.new }
+fn verdict_text(alloc: Global, q: &[u8], v: Verdict, width: u64) -> Result<String, AllocError>
+    requires { (reading q.now ≡ accepted) × (v ≡ verdict defined.BUDGET (question q.now)) }
+    ensures { IfOk result (λ s. string_bytes s
+        ≡ verdict_text v.kind v.reductions v.closings width (derivation (question q.now))) }
 {
-    let counts = [v.reductions, v.closings, w];
-    let kind = v.kind;
+    let Verdict {
+        kind,
+        reductions,
+        closings,
+    } = v;
     match kind {
         Kind::Theorem => {
-            let end = print::put_line(b"theorem", &counts, out, 0);
-            put_derivation(q, out, end)
+            let second = derivation_line(alloc, q)?;
+            format!(in alloc; "theorem {reductions} {closings} {width}\n{second}")
         }
         Kind::Refuted(state) => {
-            let numbers = [state, v.reductions, v.closings, w];
-            print::put_line(b"refuted", &numbers, out, 0)
+            format!(in alloc; "refuted {state} {reductions} {closings} {width}\n")
         }
-        Kind::Spent => print::put_line(b"spent", &counts, out, 0),
-        Kind::Full => print::put_line(b"full", &counts, out, 0),
+        Kind::Spent => format!(in alloc; "spent {reductions} {closings} {width}\n"),
+        Kind::Full => format!(in alloc; "full {reductions} {closings} {width}\n"),
     }
 }
 
-// The text for a question; answers its length.
-fn text(q: &[u8], out: &mut [u8]) -> usize
-    requires { defined.TEXT ≤ length out.old }
-    ensures long { result ≡ length (ask_text q.now) }
-    ensures bytes { out.new ≡ ask_text q.now ++ drop result out.old }
+// The text for a question.
+fn text(alloc: Global, q: &[u8]) -> Result<String, AllocError>
+    ensures { IfOk result (λ s. string_bytes s ≡ ask_text q.now) }
 {
     let widths = width::width(q);
     match widths {
-        width::Measure::Refused(r) => print::put_refused(r, out),
-        width::Measure::Of(w, _) => put_verdict(q, prover::verdict_of(q, BUDGET), w, out),
+        width::Measure::Refused(r) => Refused(r).to_string(alloc),
+        width::Measure::Of(w, _) => verdict_text(alloc, q, prover::verdict_of(q, BUDGET), w),
     }
 }
 
@@ -92,27 +84,43 @@ fn input() -> [u8; INPUT]
     [0; INPUT]
 }
 
-// Reads until the buffer is full or the input ends; answers how many bytes it put at the buffer's start.
-fn read_full<R: Read>(from: &mut R, buffer: &mut [u8]) -> io::Result<usize>
-    ensures fits { IfOk result (λ n. n ≤ length buffer.new) }
-    ensures bytes { IfOk result (λ n. Consumes (R.remaining from.old) (R.remaining from.new) (take n buffer.new)) }
-    ensures end { IfOk result (λ n. n < length buffer.new → IsAtEnd (R.remaining from.new)) }
+// Reads until the buffer is full or the input ends; answers the part of the buffer that was read. Over `take` and `read_to_end`
+// the proof doesn't close: std says neither that no more comes than was asked for, nor what the reader then has left.
+fn read_full<'a, R: Read>(from: &mut R, buffer: &'a mut [u8]) -> io::Result<&'a [u8]>
+    ensures fits { IfOk result (λ q. length q.now ≤ length buffer.old) }
+    ensures bytes { IfOk result (λ q. Consumes (R.remaining from.old) (R.remaining from.new) q.now) }
+    ensures end { IfOk result (λ q. length q.now < length buffer.old → IsAtEnd (R.remaining from.new)) }
 {
     let mut done = 0;
     while done < buffer.len() {
         let n = from.read(&mut buffer[done..])?;
         if n == 0 {
-            return Ok(done);
+            return Ok(&buffer[..done]);
         }
         done += n;
     }
-    Ok(done)
+    Ok(buffer)
 }
 
 fn main(rt: HostRuntime) -> io::Result<()> {
-    let mut bytes = input();
-    let n = read_full(&mut rt.stdin(), &mut bytes)?;
-    let mut out = [0u8; TEXT];
-    let end = text(&bytes[..n], &mut out);
-    print::write(&rt, &out, end)
+    let mut buffer = input();
+    let q = read_full(&mut rt.stdin(), &mut buffer)?;
+    let text = text(rt.alloc(), q)?;
+    print!(rt; "{text}")
+}
+
+#[cfg(test)]
+mod tests {
+    use super::*;
+    use std::test::Fail;
+
+    // Each form of line once; document 01's case 4 is the program's own stored output.
+    #[test]
+    fn has_memory(rt: HostRuntime) -> Result<(), Fail> {
+        let refuted = text(rt.alloc(), b"\x10\x00\x20\x00")?;
+        assert_eq!(rt; refuted.as_str(), "refuted 0 0 0 1\n");
+        let refused = text(rt.alloc(), b"\x10")?;
+        assert_eq!(rt; refused.as_str(), "refused 2 1\n");
+        Ok(())
+    }
 }

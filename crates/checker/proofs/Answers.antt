@@ -1,6 +1,7 @@
 -- What the checker answers: document 01's reply, and what it says of the question.
 -- Assumes nothing.
 use mathlib.Core.Path.{◌≡◌, refl, sym, ap, ◌∙◌, subst}
+use Rattle.std.specs.Prelude.{Result, Ok, Err}
 use mathlib.Core.Logic.{◌↔◌}
 use mathlib.Core.List.{List, [], ◌∷◌}
 use Prim.Native.Nat.{ℕ, ◌≤◌, ◌<◌}
@@ -19,9 +20,8 @@ use Rattle.question.specs.declared.Refusal.{Refusal}
 use Rattle.question.specs.Answers.{number_of, place_of}
 use Rattle.checker.specs.declared.Fault.{Fault}
 use Rattle.checker.specs.declared.Fault.TheVariants.{BytesAfter}
-use Rattle.checker.specs.declared.Checking.{Checking}
-use Rattle.checker.specs.declared.Checking.TheVariants.{Refused, Faulty, Passes}
-use Rattle.checker.specs.declared.Walked.TheVariants.{To, Stopped}
+use Rattle.checker.specs.declared.NotPassed.{NotPassed}
+use Rattle.checker.specs.declared.NotPassed.TheVariants.{Refused, Faulty}
 use Rattle.checker.specs.Answers.{fault_number, fault_place, check_of}
 use Rattle.checker.specs.Walks.{Roomy, Walks}
 
@@ -30,52 +30,52 @@ pub question_roomy : (q : List ℕ) (S : Sequent) → reading q ≡ accepted →
 question_roomy q S e h = omega (arith, within_room (question q) (accepted_question q e).0, ap c h, ap size h)
 
 -- Where the reply is that the derivation passes, the question is accepted and the derivation passes.
-pass_reply : (q d : List ℕ) → check_of Passes ≡ check_reply q d → (reading q ≡ accepted) × (checking (question q) d ≡ passes)
+pass_reply : (q d : List ℕ) → check_of (Ok tt) ≡ check_reply q d → (reading q ≡ accepted) × (checking (question q) d ≡ passes)
 pass_reply q d e = go (reading q) refl (checking (question q) d) refl e
   where
-    go : (r : Reading) → reading q ≡ r → (k : Checked) → checking (question q) d ≡ k → check_of Passes ≡ if_read r (checked_reply k)
+    go : (r : Reading) → reading q ≡ r → (k : Checked) → checking (question q) d ≡ k → check_of (Ok tt) ≡ if_read r (checked_reply k)
         → (reading q ≡ accepted) × (checking (question q) d ≡ passes)
     go accepted h passes j i = (h, j)
     go accepted h (faulty n at) j i = absurd (omega (arith, ap (λ (a : Reply). length a.values) i))
     go (refused n at) h k j i = absurd (omega (arith, ap (λ (a : Reply). length a.values) i))
 
-is_passes : (a : Checking) → check_of a ≡ check_of Passes → a ≡ Passes
-is_passes (Refused r) e = absurd (omega (arith, ap (λ (a : Reply). length a.values) e))
-is_passes (Faulty f) e = absurd (omega (arith, ap (λ (a : Reply). length a.values) e))
-is_passes Passes e = refl
+is_passes : (a : Result Unit NotPassed) → check_of a ≡ check_of (Ok tt) → a ≡ Ok tt
+is_passes (Err (Refused r)) e = absurd (omega (arith, ap (λ (a : Reply). length a.values) e))
+is_passes (Err (Faulty f)) e = absurd (omega (arith, ap (λ (a : Reply). length a.values) e))
+is_passes (Ok u) e = refl
 
 -- The answer is the reply; what passes is true in every state, whoever wrote it; and the derivations pass, and nothing else.
-abbrev pub Answered : List ℕ → List ℕ → Checking → Type 0
+abbrev pub Answered : List ℕ → List ℕ → Result Unit NotPassed → Type 0
 Answered q d a =
     (check_of a ≡ check_reply q d)
-    × ((a ≡ Passes → (reading q ≡ accepted) × Valid (question q)) × ((a ≡ Passes) ↔ ((reading q ≡ accepted) × Derivation (question q) d)))
+    × ((a ≡ Ok tt → (reading q ≡ accepted) × Valid (question q)) × ((a ≡ Ok tt) ↔ ((reading q ≡ accepted) × Derivation (question q) d)))
 
-answered : (q d : List ℕ) (a : Checking) → check_of a ≡ check_reply q d → Answered q d a
+answered : (q d : List ℕ) (a : Result Unit NotPassed) → check_of a ≡ check_reply q d → Answered q d a
 answered q d a e =
     let k = passes_exactly (question q) d in
-    let f : a ≡ Passes → (reading q ≡ accepted) × (checking (question q) d ≡ passes) = λ p. pass_reply q d (ap check_of (sym p) ∙ e) in
+    let f : a ≡ Ok tt → (reading q ≡ accepted) × (checking (question q) d ≡ passes) = λ p. pass_reply q d (ap check_of (sym p) ∙ e) in
     (e, (λ p. ((f p).0, passes_true (question q) d (f p).1), (λ p. ((f p).0, k.0 (f p).1), λ h. is_passes a (e ∙ rw (h.0, k.1 h.1)))))
 
-pub answer_refused : (q d : List ℕ) (r : Refusal) → refused (number_of r) (place_of r) ≡ reading q → Answered q d (Refused r)
-answer_refused q d r e = answered q d (Refused r) (ap (λ (x : Reading). if_read x (checked_reply (checking (question q) d))) e)
+pub answer_refused : (q d : List ℕ) (r : Refusal) → refused (number_of r) (place_of r) ≡ reading q → Answered q d (Err (Refused r))
+answer_refused q d r e = answered q d (Err (Refused r)) (ap (λ (x : Reading). if_read x (checked_reply (checking (question q) d))) e)
 
 module _ (q d : List ℕ) (e : reading q ≡ accepted) (S : Sequent) (h : S ≡ question q) where
   replied : (k : Checked) → checking (question q) d ≡ k → checked_reply k ≡ check_reply q d
   replied k j = sym (rw (e, j))
 
-  pub answer_faulty : (f : Fault) → Walks d (S ∷ []) 0 (Stopped f) → Answered q d (Faulty f)
-  answer_faulty f w = answered q d (Faulty f) (replied (faulty (fault_number f) (fault_place f)) (subst (λ (R : Sequent). Walks d (R ∷ []) 0 (Stopped f)) h w []))
+  pub answer_faulty : (f : Fault) → Walks d (S ∷ []) 0 (Err f) → Answered q d (Err (Faulty f))
+  answer_faulty f w = answered q d (Err (Faulty f)) (replied (faulty (fault_number f) (fault_place f)) (subst (λ (R : Sequent). Walks d (R ∷ []) 0 (Err f)) h w []))
 
-  ended : (n : ℕ) → Walks d (S ∷ []) 0 (To n) → checking (question q) d ≡ check (drop n d) [] n
-  ended n w = (subst (λ (R : Sequent). Walks d (R ∷ []) 0 (To n)) h w).1 []
+  ended : (n : ℕ) → Walks d (S ∷ []) 0 (Ok n) → checking (question q) d ≡ check (drop n d) [] n
+  ended n w = (subst (λ (R : Sequent). Walks d (R ∷ []) 0 (Ok n)) h w).1 []
 
-  pub answer_after : (n : ℕ) → Walks d (S ∷ []) 0 (To n) → n < length d → Answered q d (Faulty (BytesAfter n))
-  answer_after n w l = answered q d (Faulty (BytesAfter n)) (replied (faulty BYTES_AFTER n) (ended n w ∙ go (drop n d) (omega (arith, length-drop n d))))
+  pub answer_after : (n : ℕ) → Walks d (S ∷ []) 0 (Ok n) → n < length d → Answered q d (Err (Faulty (BytesAfter n)))
+  answer_after n w l = answered q d (Err (Faulty (BytesAfter n))) (replied (faulty BYTES_AFTER n) (ended n w ∙ go (drop n d) (omega (arith, length-drop n d))))
     where
       go : (bs : List ℕ) → 1 ≤ length bs → check bs [] n ≡ faulty BYTES_AFTER n
       go [] k = absurd (omega arith)
       go (b ∷ []) k = refl
       go (b ∷ i ∷ bs) k = refl
 
-  pub answer_passes : (n : ℕ) → Walks d (S ∷ []) 0 (To n) → length d ≤ n → Answered q d Passes
-  answer_passes n w l = answered q d Passes (replied passes (ended n w ∙ ap (λ (bs : List ℕ). check bs [] n) (drop_of_length-le d {i = n} l)))
+  pub answer_passes : (n : ℕ) → Walks d (S ∷ []) 0 (Ok n) → length d ≤ n → Answered q d (Ok tt)
+  answer_passes n w l = answered q d (Ok tt) (replied passes (ended n w ∙ ap (λ (bs : List ℕ). check bs [] n) (drop_of_length-le d {i = n} l)))

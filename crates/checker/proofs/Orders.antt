@@ -2,7 +2,8 @@
 -- Assumes nothing.
 use mathlib.Core.Path.{◌≡◌, refl, sym, ap, ◌∙◌}
 use mathlib.Core.Bool.{false}
-use mathlib.Core.Option.{Option, none, some}
+use mathlib.Core.Option.{Option as Maybe, none, some}
+use Rattle.std.specs.Prelude.{Some, None}
 use Prim.Native.Nat.{ℕ, zero, suc, ◌+◌, ◌-◌, ◌/◌, ◌%◌, ◌^◌, ◌≤◌, ◌<◌}
 use native.Mathlib.Nat.{div-one, div-div-eq-div-mul, div-eq_of_lt, pow-succ'}
 use native.Mathlib.Omega.{arith}
@@ -18,28 +19,28 @@ use Rattle.calculus.specs.Derivation.{Order as Command, CLOSE, PAIR, REDUCE, ord
 use Rattle.calculus.proofs.Spelling.{command_byte}
 use Rattle.calculus.proofs.Derivations.{order_code_lem, order_byte}
 use Rattle.question.proofs.Readers.{connects, connective_range}
-use Rattle.checker.specs.declared.Order.TheVariants.{Close, Pair, Reduce, Unknown}
+use Rattle.checker.specs.declared.Order.TheVariants.{Close, Pair, Reduce}
 use Rattle.checker.specs.Walks.{order_of}
 
-pub order_close : (b : ℕ) → b ≡ 0x41 → order_of (order b) ≡ Close
+pub order_close : (b : ℕ) → b ≡ 0x41 → order_of (order b) ≡ Some Close
 order_close b e = rw e
 
-pub order_pair : (b : ℕ) → b ≡ 0x42 → order_of (order b) ≡ Pair
+pub order_pair : (b : ℕ) → b ≡ 0x42 → order_of (order b) ≡ Some Pair
 order_pair b e = rw e
 
 -- A side's commands are n more than the connectives' bytes, which are 2 to 6.
 pub order_reduce : (t : Side) (b n : ℕ) → ((k : Connective) → order_code (REDUCE t k) ≡ n + code (CONNECTIVE k)) → n + 2 ≤ b → b ≤ n + 6
-    → order_of (order b) ≡ Reduce t (b - n)
+    → order_of (order b) ≡ Some (Reduce t (b - n))
 order_reduce t b n f h l =
     let j = connects (b - n) (omega arith) (omega arith) in
     let i : code (CONNECTIVE j.connective) ≡ b - n = command_byte (b - n) _ j.named in
     let e : b ≡ order_code (REDUCE t j.connective) = omega (arith, f j.connective) in
-    ap (λ (x : ℕ). order_of (order x)) e ∙ ap order_of (order_code_lem (REDUCE t j.connective)) ∙ ap (Reduce t) i
+    ap (λ (x : ℕ). order_of (order x)) e ∙ ap order_of (order_code_lem (REDUCE t j.connective)) ∙ ap (λ (x : ℕ). Some (Reduce t x)) i
 
-pub order_other : (b : ℕ) → (b ≡ 0x41 → ⊥) → (b ≡ 0x42 → ⊥) → (0x52 ≤ b → b ≤ 0x56 → ⊥) → (0x62 ≤ b → b ≤ 0x66 → ⊥) → order_of (order b) ≡ Unknown
+pub order_other : (b : ℕ) → (b ≡ 0x41 → ⊥) → (b ≡ 0x42 → ⊥) → (0x52 ≤ b → b ≤ 0x56 → ⊥) → (0x62 ≤ b → b ≤ 0x66 → ⊥) → order_of (order b) ≡ None
 order_other b h p k l = go (order b) refl
   where
-    go : (o : Option Command) → order b ≡ o → order_of o ≡ Unknown
+    go : (o : Maybe Command) → order b ≡ o → order_of o ≡ None
     go none e = refl
     go (some CLOSE) e = absurd (h (sym (order_byte b CLOSE e)))
     go (some PAIR) e = absurd (p (sym (order_byte b PAIR e)))

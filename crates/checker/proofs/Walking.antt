@@ -2,6 +2,7 @@
 -- Assumes nothing.
 use mathlib.Core.Path.{◌≡◌, refl, sym, ap, ◌∙◌, subst}
 use mathlib.Core.Option.{Option, none, some}
+use Rattle.std.specs.Prelude.{Result, Ok, Err}
 use mathlib.Core.List.{List, [], ◌∷◌, ◌++◌, map}
 use Prim.Native.Nat.{ℕ, zero, suc, ◌+◌, ◌-◌, ◌≤◌, ◌<◌}
 use native.Mathlib.Omega.{arith}
@@ -11,30 +12,26 @@ use lib.Seq.{drop-cons, drop-drop}
 use Rattle.calculus.specs.Fold.{Each, fold, SUM}
 use Rattle.calculus.specs.Limits.{ROOM, CUT_SHORT}
 use Rattle.calculus.specs.Syntax.{Sequent, size}
-use Rattle.calculus.specs.Derivation.{Move as Result, fault, waiting, shut, obey, order, faulty, proceed, check}
-use Rattle.calculus.proofs.Folds.{fold_append}
+use Rattle.calculus.specs.Derivation.{Move as Said, fault, waiting, shut, obey, order, faulty, proceed, check}
+use Rattle.calculus.proofs.Folds.{fold_append, each_at}
 use Rattle.calculus.proofs.Derivations.{Obeyed, obeyed}
 use Rattle.sequent.specs.declared.Placing.{Placing}
-use Rattle.sequent.specs.declared.Rule.{Rule}
 use Rattle.sequent.specs.declared.Running.{Running}
 use Rattle.sequent.specs.declared.Reduction.{Reduction}
-use Rattle.sequent.specs.Rule.{placings}
 use Rattle.sequent.specs.View.{view, sequent_of, Good}
 use Rattle.sequent.specs.Compounds.{compound_at, rule_for, premise_by, Reducible}
 use Rattle.sequent.proofs.Lists.{each_unmap}
-use Rattle.sequent.proofs.Placings.{OneOrTwo, Next, next_ends, next_each, Summed, sum_starts, sum_goes, sum_ends}
-use Rattle.sequent.proofs.Goods.{stands, premises_made, few}
+use Rattle.sequent.proofs.Placings.{nowhere, next, next_ends, Summed, sum_starts, sum_goes, sum_ends}
+use Rattle.sequent.proofs.Goods.{stands, premises_made}
 use Rattle.checker.specs.declared.Fault.{Fault}
 use Rattle.checker.specs.declared.Fault.TheVariants.{CutShort}
-use Rattle.checker.specs.declared.Walked.{Walked}
-use Rattle.checker.specs.declared.Walked.TheVariants.{To, Stopped}
 use Rattle.checker.specs.Answers.{fault_number, fault_place}
 use Rattle.checker.specs.Walks.{Roomy, Walks, Tallied}
 use Rattle.checker.proofs.Commands.{roomy_premises, past}
 
 -- ---- one command
 
-pub cut_short : (d : List ℕ) (at : ℕ) → length d - at < 2 → (S : Sequent) → Walks d (S ∷ []) at (Stopped (CutShort at))
+pub cut_short : (d : List ℕ) (at : ℕ) → length d - at < 2 → (S : Sequent) → Walks d (S ∷ []) at (Err (CutShort at))
 cut_short d at h S Ps = go (drop at d) (omega (arith, length-drop at d))
   where
     go : (bs : List ℕ) → length bs < 2 → check bs (S ∷ Ps) at ≡ faulty CUT_SHORT at
@@ -60,7 +57,7 @@ command : (b i : ℕ) (bs : List ℕ) (S : Sequent) (Ps : List Sequent) (at : �
     → check (b ∷ i ∷ bs) (S ∷ Ps) at ≡ proceed (obey (order b) i (get_elem? bs 0) S) at (λ Qs. check bs (Qs ++ Ps) (at + 2)) (λ Qs. check (drop 1 bs) (Qs ++ Ps) (at + 3))
 command b i [] S Ps at = go (obey (order b) i none S) (not_shut b i S)
   where
-    go : (m : Result) → (m ≡ shut → ⊥)
+    go : (m : Said) → (m ≡ shut → ⊥)
         → proceed m at (λ Qs. check [] (Qs ++ Ps) (at + 2)) (λ Qs. faulty CUT_SHORT at) ≡ proceed m at (λ Qs. check [] (Qs ++ Ps) (at + 2)) (λ Qs. check [] (Qs ++ Ps) (at + 3))
     go (fault n) z = refl
     go (waiting Qs) z = refl
@@ -68,11 +65,11 @@ command b i [] S Ps at = go (obey (order b) i none S) (not_shut b i S)
 command b i (j ∷ bs) S Ps at = refl
 
 -- what the command at a place says
-abbrev pub said : List ℕ → ℕ → Sequent → Result
+abbrev pub said : List ℕ → ℕ → Sequent → Said
 said d at S = obey (order (get_or d at 0)) (get_or d (at + 1) 0) (get_elem? d (at + 2)) S
 
 module _ (d : List ℕ) (at : ℕ) (more : at + 2 ≤ length d) (S : Sequent) where
-  module _ (m : Result) (e : said d at S ≡ m) where
+  module _ (m : Said) (e : said d at S ≡ m) where
     by_result : (Ps : List Sequent) → check (drop at d) (S ∷ Ps) at ≡ proceed m at (λ Qs. check (drop (at + 2) d) (Qs ++ Ps) (at + 2)) (λ Qs. check (drop (at + 3) d) (Qs ++ Ps) (at + 3))
     by_result Ps =
         let n : at + 1 ≡ suc at = omega arith in
@@ -84,13 +81,13 @@ module _ (d : List ℕ) (at : ℕ) (more : at + 2 ≤ length d) (S : Sequent) wh
         let h : obey (order (get_or d at 0)) (get_or d (at + 1) 0) (get_elem? (drop (at + 2) d) 0) S ≡ m
         = ap (λ (o : Option ℕ). obey (order (get_or d at 0)) (get_or d (at + 1) 0) o S) (head_drop (at + 2) d) ∙ e in
         ap (λ (l : List ℕ). check l (S ∷ Ps) at) f ∙ command (get_or d at 0) (get_or d (at + 1) 0) (drop (at + 2) d) S Ps at
-        ∙ ap (λ (r : Result). proceed r at (λ Qs. check (drop (at + 2) d) (Qs ++ Ps) (at + 2)) (λ Qs. check (drop 1 (drop (at + 2) d)) (Qs ++ Ps) (at + 3))) h
+        ∙ ap (λ (r : Said). proceed r at (λ Qs. check (drop (at + 2) d) (Qs ++ Ps) (at + 2)) (λ Qs. check (drop 1 (drop (at + 2) d)) (Qs ++ Ps) (at + 3))) h
         ∙ ap (λ (l : List ℕ). proceed m at (λ Qs. check (drop (at + 2) d) (Qs ++ Ps) (at + 2)) (λ Qs. check l (Qs ++ Ps) (at + 3))) g
 
-  pub walk_stopped : (f : Fault) → said d at S ≡ fault (fault_number f) → fault_place f ≡ at → Walks d (S ∷ []) at (Stopped f)
+  pub walk_stopped : (f : Fault) → said d at S ≡ fault (fault_number f) → fault_place f ≡ at → Walks d (S ∷ []) at (Err f)
   walk_stopped f e p Ps = by_result (fault (fault_number f)) e Ps ∙ ap (faulty (fault_number f)) (sym p)
 
-  pub walk_closed : said d at S ≡ waiting [] → Walks d (S ∷ []) at (To (at + 2))
+  pub walk_closed : said d at S ≡ waiting [] → Walks d (S ∷ []) at (Ok (at + 2))
   walk_closed e = (more, by_result (waiting []) e)
 
   pub three_bytes : said d at S ≡ shut → at + 3 ≤ length d
@@ -100,12 +97,12 @@ module _ (d : List ℕ) (at : ℕ) (more : at + 2 ≤ length d) (S : Sequent) wh
       go (yes h) = omega arith
       go (no h) = not_shut (get_or d at 0) (get_or d (at + 1) 0) S (rw (past d (at + 2) (omega arith)) at e)
 
-  pub walk_paired : said d at S ≡ shut → Walks d (S ∷ []) at (To (at + 3))
+  pub walk_paired : said d at S ≡ shut → Walks d (S ∷ []) at (Ok (at + 3))
   walk_paired e = (three_bytes e, by_result shut e)
 
-  pub walk_reduced : (Qs : List Sequent) → said d at S ≡ waiting Qs → (w : Walked) → Walks d Qs (at + 2) w → Walks d (S ∷ []) at w
-  walk_reduced Qs e (To n) h = (h.0, λ Ps. by_result (waiting Qs) e Ps ∙ h.1 Ps)
-  walk_reduced Qs e (Stopped f) h = λ Ps. by_result (waiting Qs) e Ps ∙ h Ps
+  pub walk_reduced : (Qs : List Sequent) → said d at S ≡ waiting Qs → (w : Result ℕ Fault) → Walks d Qs (at + 2) w → Walks d (S ∷ []) at w
+  walk_reduced Qs e (Ok n) h = (h.0, λ Ps. by_result (waiting Qs) e Ps ∙ h.1 Ps)
+  walk_reduced Qs e (Err f) h = λ Ps. by_result (waiting Qs) e Ps ∙ h Ps
 
 -- ---- premises ahead
 
@@ -118,51 +115,54 @@ drop_map f (suc j) (x ∷ xs) = drop_map f j xs
 stores_split : (j : ℕ) (Ps : List Sequent) → fold SUM size (take j Ps) + fold SUM size (drop j Ps) ≡ fold SUM size Ps
 stores_split j Ps = sym (fold_append SUM size (take j Ps) (drop j Ps)) ∙ ap (fold SUM size) (take-append-drop j Ps)
 
--- j premises are walked from byte o to byte e, n places were stored for them, and p is the next placing
-pub record Ahead (d : List ℕ) (F : Placing → Sequent) (r : Rule) (o j e n : ℕ) (p : Placing) : Type 0 where
-  pub sum : Summed F r j n p
+-- j premises are walked from byte o to byte e, and n places were stored for them
+pub record Ahead (d : List ℕ) (F : Placing → Sequent) (r : List Placing) (o j e n : ℕ) : Type 0 where
+  pub sum : Summed F r j n
   pub inside : e ≤ length d
-  pub walks : (Rs : List Sequent) → check (drop o d) (map F (placings r) ++ Rs) o ≡ check (drop e d) (map F (drop j (placings r)) ++ Rs) e
+  pub walks : (Rs : List Sequent) → check (drop o d) (map F r ++ Rs) o ≡ check (drop e d) (map F (drop j r) ++ Rs) e
 
-module _ (d : List ℕ) (F : Placing → Sequent) (r : Rule) (count : OneOrTwo r) (o : ℕ) where
-  pub ahead_starts : o ≤ length d → Ahead d F r o 0 o 0 r.first
-  ahead_starts h = record { sum = sum_starts F r count; inside = h; walks = λ Rs. refl }
+module _ (d : List ℕ) (F : Placing → Sequent) (r : List Placing) (o : ℕ) where
+  pub ahead_starts : o ≤ length d → Ahead d F r o 0 o 0
+  ahead_starts h = record { sum = sum_starts F r; inside = h; walks = λ Rs. refl }
 
-  module _ (j e n : ℕ) (p : Placing) (a : Ahead d F r o j e n p) where
-    module _ (h : j < r.premises) where
-      walks_next : (Rs : List Sequent) → check (drop o d) (map F (placings r) ++ Rs) o ≡ check (drop e d) (F p ∷ map F (drop (j + 1) (placings r)) ++ Rs) e
-      walks_next Rs = a.walks Rs ∙ ap (λ (ps : List Placing). check (drop e d) (map F ps ++ Rs) e) (a.sum.next.next h)
+  module _ (j e n : ℕ) (a : Ahead d F r o j e n) where
+    module _ (h : j < length r) where
+      abbrev P : Sequent
+      P = F (get_or r j nowhere)
 
-      pub ahead_goes : (e' k : ℕ) → Walks d (F p ∷ []) e (To e') → k ≡ size (F p) → size (F p) ≤ ROOM → Ahead d F r o (j + 1) e' (n + k) r.second
+      walks_next : (Rs : List Sequent) → check (drop o d) (map F r ++ Rs) o ≡ check (drop e d) (P ∷ map F (drop (j + 1) r) ++ Rs) e
+      walks_next Rs = a.walks Rs ∙ ap (λ (ps : List Placing). check (drop e d) (map F ps ++ Rs) e) (next r j h)
+
+      pub ahead_goes : (e' k : ℕ) → Walks d (P ∷ []) e (Ok e') → k ≡ size P → size P ≤ ROOM → Ahead d F r o (j + 1) e' (n + k)
       ahead_goes e' k w m l =
           record {
-            sum = sum_goes F r count j n p a.sum h k m l;
+            sum = sum_goes F r j n a.sum h k m l;
             inside = w.0;
-            walks = λ Rs. walks_next Rs ∙ w.1 (map F (drop (j + 1) (placings r)) ++ Rs);
+            walks = λ Rs. walks_next Rs ∙ w.1 (map F (drop (j + 1) r) ++ Rs);
           }
 
-      pub ahead_stops : (f : Fault) (k : ℕ) → Walks d (F p ∷ []) e (Stopped f) → k ≡ size (F p) → size (F p) ≤ ROOM → Tallied d (map F (placings r)) o (record { walked = Stopped f; stores = n + k })
+      pub ahead_stops : (f : Fault) (k : ℕ) → Walks d (P ∷ []) e (Err f) → k ≡ size P → size P ≤ ROOM → Tallied d (map F r) o (record { walked = Err f; stores = n + k })
       ahead_stops f k w m l =
           record {
-            walks = λ Rs. walks_next Rs ∙ w (map F (drop (j + 1) (placings r)) ++ Rs);
+            walks = λ Rs. walks_next Rs ∙ w (map F (drop (j + 1) r) ++ Rs);
             stores = (
               j + 1,
               omega arith,
-              omega (arith, (sum_goes F r count j n p a.sum h k m l).stores, stores_split (j + 1) (map F (placings r)), ap (fold SUM size) (drop_map F (j + 1) (placings r))),
+              omega (arith, (sum_goes F r j n a.sum h k m l).stores, stores_split (j + 1) (map F r), ap (fold SUM size) (drop_map F (j + 1) r)),
             );
           }
 
-    pub ahead_ends : r.premises ≤ j → Tallied d (map F (placings r)) o (record { walked = To e; stores = n })
+    pub ahead_ends : length r ≤ j → Tallied d (map F r) o (record { walked = Ok e; stores = n })
     ahead_ends h =
         record {
-          walks = (a.inside, λ Rs. a.walks Rs ∙ ap (λ (ps : List Placing). check (drop e d) (map F ps ++ Rs) e) (next_ends r count j h));
-          stores = sum_ends F r count j n p a.sum h;
+          walks = (a.inside, λ Rs. a.walks Rs ∙ ap (λ (ps : List Placing). check (drop e d) (map F ps ++ Rs) e) (next_ends r j h));
+          stores = sum_ends F r j n a.sum h;
         }
 
 -- the next premise leaves room again
 pub roomy_next : (T items : List ℕ) (s : Running) (good : Good T items s) → Roomy (sequent_of T items s) → (r : Reduction) (can : Reducible T items s r)
-    → (j : ℕ) (p : Placing) → Next (rule_for r) j p → j < (rule_for r).premises → Roomy (premise_by T items s r p)
-roomy_next T items s good roomy r can =
-    next_each (rule_for r) (few T items s good r can) (λ p. Roomy (premise_by T items s r p))
-    (each_unmap (premise_by T items s r) Roomy (placings (rule_for r)) (subst (Each Roomy) (sym (premises_made T items s good r can))
-    (roomy_premises r.side r.at (compound_at T r.side r.at (view s items)) (sequent_of T items s) (stands T items s good r.side r.at can.inside can.compound) roomy)))
+    → (rule : List Placing) (e : rule ≡ rule_for r) (j : ℕ) → j < length rule → Roomy (premise_by T items s r (get_or rule j nowhere))
+roomy_next T items s good roomy r can rule e j h =
+    each_at (λ p. Roomy (premise_by T items s r p)) rule j nowhere
+    (each_unmap (premise_by T items s r) Roomy rule (subst (Each Roomy) (sym (premises_made T items s good r can rule e))
+    (roomy_premises r.side r.at (compound_at T r.side r.at (view s items)) (sequent_of T items s) (stands T items s good r.side r.at can.inside can.compound) roomy))) h

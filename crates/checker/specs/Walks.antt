@@ -1,38 +1,37 @@
 -- The checker's steps, each by the documents' definitions.
-use Rattle.std.specs.Prelude.{◌≡◌, List, [], ◌++◌, ℕ, ◌+◌, ◌≤◌, length, take, drop}
-use Rattle.std.proofs.Math.Option.{Option, none, some}
+use Rattle.std.specs.Prelude.{◌≡◌, List, [], ◌++◌, ℕ, ◌+◌, ◌≤◌, length, take, drop, Option, Some, None, Result, Ok, Err}
+use Rattle.std.proofs.Math.Option.{Option as Maybe, none, some}
 use Rattle.calculus.specs.Fold.{fold, SUM}
 use Rattle.calculus.specs.Limits.{ROOM}
 use Rattle.calculus.specs.Syntax.{Sequent, c, size}
 use Rattle.calculus.specs.Bytes.{CONNECTIVE, code}
-use Rattle.calculus.specs.Derivation.{Order as Command, CLOSE, PAIR, REDUCE, Move as Result, fault, waiting, shut, faulty, check}
+use Rattle.calculus.specs.Derivation.{Order as Command, CLOSE, PAIR, REDUCE, Move as Said, fault, waiting, shut, faulty, check}
 use Rattle.sequent.specs.declared.Running.{Running}
 use Rattle.sequent.specs.Compounds.{premises_at, Reducible}
 use Rattle.checker.specs.Answers.{fault_number, fault_place}
+use Rattle.checker.specs.declared.Fault.{Fault}
 use Rattle.checker.specs.declared.Order.{Order}
-use Rattle.checker.specs.declared.Order.TheVariants.{Close, Pair, Reduce as Reduction-of, Unknown}
+use Rattle.checker.specs.declared.Order.TheVariants.{Close, Pair, Reduce as Reduction-of}
 use Rattle.checker.specs.declared.Move.{Move}
-use Rattle.checker.specs.declared.Move.TheVariants.{Stop, Closed, Paired, Reduce}
-use Rattle.checker.specs.declared.Walked.{Walked}
-use Rattle.checker.specs.declared.Walked.TheVariants.{To, Stopped}
+use Rattle.checker.specs.declared.Move.TheVariants.{Closed, Paired, Reduce}
 use Rattle.checker.specs.declared.Tally.{Tally}
 
 -- ---- a command
 
-abbrev pub order_of : Option Command → Order
-order_of none = Unknown
-order_of (some CLOSE) = Close
-order_of (some PAIR) = Pair
-order_of (some (REDUCE s k)) = Reduction-of s (code (CONNECTIVE k))
+abbrev pub order_of : Maybe Command → Option Order
+order_of none = None
+order_of (some CLOSE) = Some Close
+order_of (some PAIR) = Some Pair
+order_of (some (REDUCE s k)) = Some (Reduction-of s (code (CONNECTIVE k)))
 
 -- ---- what a command says
 
 -- a move of the command at `at`, where the documents' is m
-abbrev pub Moves : List ℕ → List ℕ → Running → ℕ → Result → Move → Type 0
-Moves T items s at m (Stop f) = (m ≡ fault (fault_number f)) × (fault_place f ≡ at)
-Moves T items s at m Closed = m ≡ waiting []
-Moves T items s at m Paired = m ≡ shut
-Moves T items s at m (Reduce r) = (m ≡ waiting (premises_at T items s r)) × Reducible T items s r
+abbrev pub Moves : List ℕ → List ℕ → Running → ℕ → Said → Result Move Fault → Type 0
+Moves T items s at m (Err f) = (m ≡ fault (fault_number f)) × (fault_place f ≡ at)
+Moves T items s at m (Ok Closed) = m ≡ waiting []
+Moves T items s at m (Ok Paired) = m ≡ shut
+Moves T items s at m (Ok (Reduce r)) = (m ≡ waiting (premises_at T items s r)) × Reducible T items s r
 
 -- ---- the derivations of sequents from a place on, one after the other, whatever waits after them
 
@@ -40,14 +39,14 @@ Moves T items s at m (Reduce r) = (m ≡ waiting (premises_at T items s r)) × R
 abbrev pub Roomy : Sequent → Type 0
 Roomy S = size S + c S ≤ ROOM
 
-abbrev pub Walks : List ℕ → List Sequent → ℕ → Walked → Type 0
-Walks d Ss at (To e) = (e ≤ length d) × ((Ps : List Sequent) → check (drop at d) (Ss ++ Ps) at ≡ check (drop e d) Ps e)
-Walks d Ss at (Stopped f) = (Ps : List Sequent) → check (drop at d) (Ss ++ Ps) at ≡ faulty (fault_number f) (fault_place f)
+abbrev pub Walks : List ℕ → List Sequent → ℕ → Result ℕ Fault → Type 0
+Walks d Ss at (Ok e) = (e ≤ length d) × ((Ps : List Sequent) → check (drop at d) (Ss ++ Ps) at ≡ check (drop e d) Ps e)
+Walks d Ss at (Err f) = (Ps : List Sequent) → check (drop at d) (Ss ++ Ps) at ≡ faulty (fault_number f) (fault_place f)
 
 -- the premises made: all where the walk came through, else the first n
-abbrev pub Made : List Sequent → ℕ → Walked → Type 0
-Made Ps k (To e) = k ≡ fold SUM size Ps
-Made Ps k (Stopped f) = (n : ℕ) × (1 ≤ n) × (k ≡ fold SUM size (take n Ps))
+abbrev pub Made : List Sequent → ℕ → Result ℕ Fault → Type 0
+Made Ps k (Ok e) = k ≡ fold SUM size Ps
+Made Ps k (Err f) = (n : ℕ) × (1 ≤ n) × (k ≡ fold SUM size (take n Ps))
 
 -- premises walked, and the stores made for them: their formulas together
 pub record Tallied (d : List ℕ) (Ps : List Sequent) (at : ℕ) (t : Tally) : Type 0 where

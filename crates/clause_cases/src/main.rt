@@ -2,35 +2,19 @@
 // and from the first, numbers 13 to 15 in their order, and refused questions.
 #![tactic(auto)]
 
-ghost use Rattle.std.specs.Prelude.{◌≤◌, length};
-
-use clauses::Answer;
+use clauses::{ClauseVerdict, NotClauses};
+use print::Refused;
 use std::io;
-
-// One line: a word with the number of a refusal, and its place.
-fn refused(rt: &impl Print, word: &[u8], at: usize) -> io::Result<()>
-    requires { length word.now ≤ 20 }
-{
-    let numbers = [at as u64];
-    print::write_line(rt, word, &numbers)
-}
 
 // One line: what the call answers.
 fn ask(rt: &impl Print, q: &[u8]) -> io::Result<()> {
-    let a = clauses::decide_clauses(q);
-    match a {
-        Answer::Refused(r) => print::write_refused(rt, r),
-        Answer::RightFormula(at) => refused(rt, b"right formula 13", at),
-        Answer::NotClause(at) => refused(rt, b"not clause 14", at),
-        Answer::ManyPositive(at) => refused(rt, b"many positive 15", at),
-        Answer::Theorem(rounds) => {
-            let numbers = [rounds as u64];
-            print::write_line(rt, b"theorem", &numbers)
-        }
-        Answer::Refuted(state, rounds) => {
-            let numbers = [state, rounds as u64];
-            print::write_line(rt, b"refuted", &numbers)
-        }
+    match clauses::decide_clauses(q) {
+        Ok(ClauseVerdict::Theorem(rounds)) => println!(rt; "theorem {rounds}"),
+        Ok(ClauseVerdict::Refuted(state, rounds)) => println!(rt; "refuted {state} {rounds}"),
+        Err(NotClauses::Refused(r)) => print!(rt; "{}", Refused(r)),
+        Err(NotClauses::RightFormula(at)) => println!(rt; "right formula 13 {at}"),
+        Err(NotClauses::NotClause(at)) => println!(rt; "not clause 14 {at}"),
+        Err(NotClauses::ManyPositive(at)) => println!(rt; "many positive 15 {at}"),
     }
 }
 

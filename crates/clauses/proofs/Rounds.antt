@@ -4,7 +4,7 @@ use mathlib.Core.Path.{◌≡◌, refl, sym, ap, ap₂, ◌∙◌}
 use mathlib.Core.Bool.{Bool, true, false, ◌||◌}
 use mathlib.Core.List.{List, [], ◌∷◌, ◌++◌, map, append_assoc}
 use Prim.Native.Nat.{ℕ, zero, suc, ◌+◌, ◌-◌, ◌≤◌, ◌<◌}
-use native.Mathlib.Nat.{add-zero}
+use native.Mathlib.Nat.{add-zero, zero-add}
 use native.Mathlib.Omega.{arith}
 use borrow.Author.Tests.{eq-eqb, ne_eqb}
 use lib.Bits.{bit_or}
@@ -80,10 +80,7 @@ InRounds ms σ m = (cs : List Clause) → ms ≡ map masks_of cs → after m (ro
 pub rounds_first : (ms : List Masks) → InRounds ms 0 0
 rounds_first ms cs s =
     let e : length ms - 0 ≡ length cs = omega (arith, ap length s, length-map cs masks_of) in
-    ap (λ (n : ℕ). after 0 (rounds_by n cs 0)) e ∙ (λ j. record { state = (rest cs).state; rounds = zero_plus (rest cs).rounds j })
-  where
-    zero_plus : (n : ℕ) → 0 + n ≡ n
-    zero_plus n = omega arith
+    ap (λ (n : ℕ). after 0 (rounds_by n cs 0)) e ∙ (λ j. record { state = (rest cs).state; rounds = zero-add (rest cs).rounds j })
 
 module _ (ms : List Masks) (σ m next : ℕ) (v : InRounds ms σ m) (h : m < length ms) (f : (cs : List Clause) → ms ≡ map masks_of cs → next ≡ round cs σ) where
   unrolled : (cs : List Clause) → ms ≡ map masks_of cs → after m (further (eqb next σ) σ next (λ τ. rounds_by (length ms - (m + 1)) cs τ)) ≡ settled_of (rest cs)

@@ -2,9 +2,8 @@
 // 20 to 26. Number 8 has none: no premise of an accepted question holds more than 80 formulas.
 #![tactic(auto)]
 
-ghost use Rattle.std.specs.Prelude.{◌≤◌, length};
-
 use calculus::{Kind, Verdict};
+use print::{Hexadecimal, Refused};
 use std::io;
 
 const BUDGET: u64 = 1000000;
@@ -13,72 +12,54 @@ const BUDGET: u64 = 1000000;
 fn check(rt: &impl Print, q: &[u8], derivation: &[u8]) -> io::Result<()> {
     let answer = checker::check(q, derivation);
     match answer {
-        checker::Checking::Refused(r) => print::write_refused(rt, r),
-        checker::Checking::Faulty(f) => {
-            let numbers = [f.number() as u64, f.place() as u64];
-            print::write_line(rt, b"faulty", &numbers)
-        }
-        checker::Checking::Passes => print::write_bytes(rt, b"passes", b""),
+        checker::Checking::Refused(r) => print!(rt; "{}", Refused(r)),
+        checker::Checking::Faulty(f) => println!(rt; "faulty {} {}", f.number(), f.place()),
+        checker::Checking::Passes => println!(rt; "passes"),
     }
 }
 
 // A verdict with no derivation: its number, the state of a refuted question, and both counts.
 fn unproved(rt: &impl Print, v: Verdict) -> io::Result<()> {
-    let kind = v.kind;
-    let counts = [v.reductions, v.closings];
+    let Verdict {
+        kind,
+        reductions,
+        closings,
+    } = v;
     match kind {
-        Kind::Theorem => print::write_line(rt, b"theorem", &counts),
-        Kind::Full => print::write_line(rt, b"full 8", &counts),
-        Kind::Spent => print::write_line(rt, b"spent 9", &counts),
-        Kind::Refuted(state) => {
-            let numbers = [state, v.reductions, v.closings];
-            print::write_line(rt, b"not proved 10", &numbers)
-        }
+        Kind::Theorem => println!(rt; "theorem {reductions} {closings}"),
+        Kind::Full => println!(rt; "full 8 {reductions} {closings}"),
+        Kind::Spent => println!(rt; "spent 9 {reductions} {closings}"),
+        Kind::Refuted(state) => println!(rt; "not proved 10 {state} {reductions} {closings}"),
     }
 }
 
 // One line: what the writer answered.
 fn answer(rt: &impl Print, a: writer::Writing) -> io::Result<()> {
     match a {
-        writer::Writing::Refused(r) => print::write_refused(rt, r),
+        writer::Writing::Refused(r) => print!(rt; "{}", Refused(r)),
         writer::Writing::NotProved(v) => unproved(rt, v),
-        writer::Writing::NoSpace(n) => {
-            let numbers = [n];
-            print::write_line(rt, b"no space 11", &numbers)
-        }
-        writer::Writing::Written(n, v) => {
-            let numbers = [n, v.reductions, v.closings];
-            print::write_line(rt, b"written", &numbers)
-        }
+        writer::Writing::NoSpace(n) => println!(rt; "no space 11 {n}"),
+        writer::Writing::Written(n, v) => println!(rt;
+            "written {n} {} {}",
+            v.reductions, v.closings
+        ),
     }
 }
 
 // The writer's answer, and what the lent buffer holds after it.
-fn lend(rt: &impl Print, q: &[u8], budget: u64, buffer: &mut [u8]) -> io::Result<()>
-    requires { length buffer.old ≤ 4096 }
-{
+fn lend(rt: &impl Print, q: &[u8], budget: u64, buffer: &mut [u8]) -> io::Result<()> {
     answer(rt, writer::derive(q, budget, buffer))?;
-    print::write_bytes(rt, b"buffer ", buffer)
+    println!(rt; "buffer {}", Hexadecimal(buffer))
 }
 
-// The derivation in the first n bytes of a buffer, and what the checker says of it.
-fn show(rt: &impl Print, q: &[u8], buffer: &[u8], n: u64) -> io::Result<()>
-    requires { (n ≤ length buffer.now) × (length buffer.now ≤ 4096) }
-{
-    let end = n as usize;
-    let derivation = &buffer[0..end];
-    print::write_bytes(rt, b"", derivation)?;
-    check(rt, q, derivation)
-}
-
-// The writer's answer, and the derivation.
-fn derive(rt: &impl Print, q: &[u8], buffer: &mut [u8]) -> io::Result<()>
-    requires { length buffer.old ≤ 4096 }
-{
+// The writer's answer, and the derivation with what the checker says of it.
+fn derive(rt: &impl Print, q: &[u8], buffer: &mut [u8]) -> io::Result<()> {
     let a = writer::derive(q, BUDGET, buffer);
     answer(rt, a)?;
     if let writer::Writing::Written(n, _) = a {
-        show(rt, q, buffer, n)?;
+        let derivation = &buffer[..n as usize];
+        println!(rt; "{}", Hexadecimal(derivation))?;
+        check(rt, q, derivation)?;
     }
     Ok(())
 }
@@ -154,9 +135,7 @@ fn second_premise(rt: &impl Print) -> io::Result<()> {
 }
 
 // Cases 9 and 10, by their budgets.
-fn failing(rt: &impl Print, budget: u64, buffer: &mut [u8]) -> io::Result<()>
-    requires { length buffer.old ≤ 4096 }
-{
+fn failing(rt: &impl Print, budget: u64, buffer: &mut [u8]) -> io::Result<()> {
     let q =
         b"\x10\x00\x20\x01\x05\x03\x05\x01\x00\x04\x01\x01\x01\x02\x05\x01\x02\x01\x03\x05\x03\x01\x00\x01\x01\x01\x03";
     lend(rt, q, budget, buffer)

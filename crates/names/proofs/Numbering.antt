@@ -4,20 +4,17 @@ use mathlib.Core.Path.{◌≡◌, refl, sym, ◌∙◌}
 use mathlib.Core.List.{List}
 use Prim.Native.Nat.{ℕ, ◌+◌, ◌-◌, ◌≤◌, ◌<◌}
 use native.Mathlib.Omega.{arith}
-use native.Mathlib.Decide.{dec_lt}
-use lib.ListN.{length, get_or, set, length-set}
-use lib.Seq.{get_or-set_same, get_or-set_other}
+use lib.ListN.{get_or}
 use Rattle.calculus.specs.Limits.{LETTERS, CONNECTIVES}
 use Rattle.calculus.specs.Syntax.{Connective, NOT, two, Formula, letter, neg, join, compound, connectives}
 use Rattle.calculus.specs.Bytes.{CONNECTIVE, code, Lettered}
 use Rattle.question.specs.Positions.{formula_at, end_of}
 use Rattle.question.proofs.Parts.{At, a_letter, a_compound, at_position, letter_at, first_at, not_at, TwoAt, two_at}
 use Rattle.question.proofs.Readers.{connective_range}
-use Rattle.sequent.specs.Names.{node, Node, node_of, Tells, Distinct, first_of, second_of}
-use Rattle.sequent.specs.Compounds.{Stands}
+use Rattle.sequent.specs.Names.{node, Node, node_of, Tells, first_of, second_of}
 use Rattle.sequent.proofs.Namings.{node_read, command_small}
 use Rattle.names.specs.declared.Named.{Named}
-use Rattle.names.specs.Loads.{Nodes, Kept, Noted, Numbers, Numbered}
+use Rattle.names.specs.Loads.{Kept, Noted, Numbers, Numbered}
 
 -- ---- nodes that stay
 
@@ -49,65 +46,6 @@ module _ (k : Connective) (n : ℕ) (small : n ≤ CONNECTIVES) (f g : ℕ) (h :
       let p = node_read (code (CONNECTIVE k)) f g (node_of R r.name) (command_small k) (omega arith) (omega arith) (t.held ∙ e) in
       let l = t.nodes.lower (r.name - LETTERS) (omega (arith, t.above, t.below)) in
       record { above = t.above; held = t.held ∙ e; first = omega (arith, l.0, p.first, t.above); second = omega (arith, l.1, p.second, t.above) }
-
--- w among n nodes, and noted
-module _ (T : List ℕ) (n w i behind : ℕ) (s : Stands T 0 n w i) (h : Nodes T n) where
-  pub noted_found : i < n → (d : ℕ) → d ≡ LETTERS + i → Noted w behind n T T (record { name = d; end = behind; next = n })
-  noted_found l d e =
-      let z : d - LETTERS ≡ i = omega arith in
-      record {
-        above = omega arith;
-        below = omega arith;
-        held = rw z (s.here l);
-        end = refl;
-        more = omega arith;
-        few = omega arith;
-        nodes = h;
-        kept = λ k j. refl;
-        size = refl;
-      }
-
-  module _ (m : n ≤ i) (room : n < length T) where
-    old : (k : ℕ) → k < n → get_or (set T n w) k 0 ≡ get_or T k 0
-    old k j = get_or-set_other T n k w 0 (λ z. omega arith)
-
-    new : get_or (set T n w) n 0 ≡ w
-    new = get_or-set_same T n w 0 room
-
-    -- no node before it is equal
-    differs : (k : ℕ) → k < n → get_or (set T n w) k 0 ≡ get_or (set T n w) n 0 → ⊥
-    differs k j e =
-        let l : k < i = omega arith in
-        s.first k (omega arith) l (sym (old k j) ∙ e ∙ new)
-
-    distinct_more : Distinct (set T n w) (n + 1)
-    distinct_more a b p q e = go (dec_lt a n) (dec_lt b n)
-      where
-        go : Dec (a < n) → Dec (b < n) → a ≡ b
-        go (yes j) (yes k) = h.distinct a b j k (sym (old a j) ∙ e ∙ old b k)
-        go (yes j) (no k) = let z : b ≡ n = omega arith in absurd (differs a j (rw z at e))
-        go (no j) (yes k) = let z : a ≡ n = omega arith in absurd (differs b k (sym (rw z at e)))
-        go (no j) (no k) = omega arith
-
-    pub noted_fresh : first_of w < LETTERS + n → second_of w < LETTERS + n → (d : ℕ) → d ≡ LETTERS + n
-        → Noted w behind n T (set T n w) (record { name = d; end = behind; next = n + 1 })
-    noted_fresh f g d e =
-        let z : d - LETTERS ≡ n = omega arith in
-        record {
-          above = omega arith;
-          below = omega arith;
-          held = rw z new;
-          end = refl;
-          more = omega arith;
-          few = omega arith;
-          nodes = record { distinct = distinct_more; lower = λ j k. go j k (dec_lt j n) };
-          kept = old;
-          size = length-set T n w;
-        }
-      where
-        go : (j : ℕ) → j < n + 1 → Dec (j < n) → (first_of (get_or (set T n w) j 0) < LETTERS + j) × (second_of (get_or (set T n w) j 0) < LETTERS + j)
-        go j k (yes l) = rw (old j l) (h.lower j l)
-        go j k (no l) = let z : j ≡ n = omega arith in rw (z, new) (f, g)
 
 -- ---- a formula at a position
 

@@ -15,7 +15,7 @@ ghost use Rattle.sequent.specs.Compounds.{Stands};
 ghost use Rattle.names.specs.Loads.{Nodes, Noted, Numbers, Numbered, Loads, Enters, before};
 
 use calculus::Side;
-use question::LETTERS;
+use question::{LETTERS, Question};
 use sequent::Running;
 
 // A formula's name, the position behind it and the number of the next node.
@@ -40,7 +40,7 @@ pub struct Loaded {
 fn node(b: u8, f: u8, g: u8) -> u32
     ensures { result ≡ node b f g }
 {
-    b as u32 + 256 * (f as u32) + 65536 * (g as u32)
+    u32::from(b) + 256 * u32::from(f) + 65536 * u32::from(g)
 }
 
 fn name(n: usize) -> u8
@@ -48,21 +48,6 @@ fn name(n: usize) -> u8
     ensures { result ≡ Limits.LETTERS + n }
 {
     LETTERS + n as u8
-}
-
-// The place of an equal node among the first n, or n.
-fn place_of(nodes: &[u32; 48], n: usize, w: u32) -> usize
-    requires { (n ≤ CONNECTIVES) × (length nodes.now ≡ CONNECTIVES) }
-    ensures { Stands nodes.now 0 n w result }
-{
-    let mut i = 0;
-    while i < n {
-        if nodes[i] == w {
-            return i;
-        }
-        i += 1;
-    }
-    n
 }
 
 // The name of the compound that has a node: that of an equal node, or the next.
@@ -74,23 +59,24 @@ fn note(nodes: &mut [u32; 48], w: u32, end: usize, n: usize) -> Named
         × (second_of w < Limits.LETTERS + n) }
     ensures { Noted w end n nodes.old nodes.new result }
 {
-    let i = place_of(nodes, n, w);
-    if i < n {
+    if let Some(i) = nodes[..n].iter().position(|x| *x == w) {
         return Named {
             name: name(i),
-            end: end,
+            end,
             next: n,
         };
     }
     nodes[n] = w;
     Named {
         name: name(n),
-        end: end,
+        end,
         next: n + 1,
     }
 }
 
-// Names the formula at a position, where n nodes are in use, and notes the nodes of its compounds.
+// Names the formula at a position, where n nodes are in use, and notes the nodes of its compounds. The number n stands beside the
+// nodes: with both in one struct naming takes 1.1 to 1.4 times as long.
+#[cycle(number_number_parts)]
 fn number(q: &[u8], nodes: &mut [u32; 48], at: usize, n: usize) -> Named
     requires { Numbers q.now at n nodes.old }
     ensures { Numbered q.now at n nodes.old nodes.new result }
@@ -105,34 +91,18 @@ fn number(q: &[u8], nodes: &mut [u32; 48], at: usize, n: usize) -> Named
     number_parts(q, nodes, at, n)
 }
 
-// The same of a part: a letter needs no call.
-#[cycle(number_parts_part)]
-fn part(q: &[u8], nodes: &mut [u32; 48], at: usize, n: usize) -> Named
-    requires { Numbers q.now at n nodes.old }
-    ensures { Numbered q.now at n nodes.old nodes.new result }
-{
-    if q[at] == 1 {
-        return Named {
-            name: q[at + 1],
-            end: at + 2,
-            next: n,
-        };
-    }
-    number_parts(q, nodes, at, n)
-}
-
 // A compound: its parts, then itself.
-#[cycle(number_parts_part)]
+#[cycle(number_number_parts)]
 fn number_parts(q: &[u8], nodes: &mut [u32; 48], at: usize, n: usize) -> Named
     requires { Numbers q.now at n nodes.old × (get_or q.now at 0 ≡ 1 → ⊥) }
     ensures { Numbered q.now at n nodes.old nodes.new result }
 {
     let b = q[at];
-    let f = part(q, nodes, at + 1, n);
+    let f = number(q, nodes, at + 1, n);
     if b == 2 {
         return note(nodes, node(b, f.name, f.name), f.end, f.next);
     }
-    let g = part(q, nodes, f.end, f.next);
+    let g = number(q, nodes, f.end, f.next);
     note(nodes, node(b, f.name, g.name), g.end, g.next)
 }
 
@@ -158,35 +128,37 @@ fn enter(q: &[u8], nodes: &mut [u32; 48], items: &mut [u8; 80], l: Loaded) -> Lo
 }
 
 // The formulas of a side of an accepted question, where that side starts.
-fn load(q: &[u8], nodes: &mut [u32; 48], items: &mut [u8; 80], side: Side, start: Loaded) -> Loaded
-    requires { (reading q.now ≡ accepted)
-        × (start.end ≡ side_start side (question q.now))
-        × Loads nodes.old items.old start.places start (before side (question q.now)) }
+fn load(
+    q: Question<'_>,
+    nodes: &mut [u32; 48],
+    items: &mut [u8; 80],
+    side: Side,
+    start: Loaded,
+) -> Loaded
+    requires { (start.end ≡ side_start side (question q.bytes.now))
+        × Loads nodes.old items.old start.places start (before side (question q.bytes.now)) }
     ensures { Loads
         nodes.new
         items.new
         start.places
         result
-        (before side (question q.now) ++ on_side side (question q.now))
+        (before side (question q.entry.bytes.now) ++ on_side side (question q.entry.bytes.now))
         × (take start.places items.new ≡ take start.places items.old)
-        × (result.end ≡ start_of side (length (on_side side (question q.now))) (question q.now)) }
+        × (result.end ≡ start_of side (length (on_side side (question q.entry.bytes.now))) (question q.entry.bytes.now)) }
 {
-    let n = question::side_count(q, side, start.end);
+    let n = q.count(side, start.end);
     let mut l = start;
-    let mut i = 0;
-    while i < n {
-        l = enter(q, nodes, items, l);
-        i += 1;
+    for _i in 0..n {
+        l = enter(q.bytes, nodes, items, l);
     }
     l
 }
 
 // The running sequent of an accepted question, its nodes and its places. The right side starts two bytes behind the left
 // side's formulas.
-pub fn root(q: &[u8], nodes: &mut [u32; 48], items: &mut [u8; 80]) -> Running
-    requires { (reading q.now ≡ accepted) × (length nodes.old ≡ CONNECTIVES) × (length items.old ≡ ROOM) }
+pub fn root(q: Question<'_>, nodes: &mut [u32; 48], items: &mut [u8; 80]) -> Running
     ensures { Good nodes.new items.new result
-        × (sequent_of nodes.new items.new result ≡ question q.now) }
+        × (sequent_of nodes.new items.new result ≡ question q.entry.bytes.now) }
 {
     let start = Loaded {
         places: 0,

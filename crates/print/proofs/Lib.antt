@@ -1,2 +1,2 @@
--- The law behind the functions' proofs. Assumes nothing.
+-- The laws behind the functions' proofs. Assumes nothing.
 pub mod Texts

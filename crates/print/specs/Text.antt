@@ -1,9 +1,9 @@
 -- Text as bytes: words, numbers in decimal, bytes in hexadecimal, and a line of a word and numbers.
-use Rattle.std.specs.Prelude.{◌≡◌, List, [], ◌∷◌, ◌++◌, ℕ, zero, suc, ◌+◌, ◌/◌, ◌%◌, length}
+use Rattle.std.specs.Prelude.{List, [], ◌∷◌, ◌++◌, ℕ, zero, suc, ◌/◌, ◌%◌, false}
+use Rattle.std.specs.List.{flat_map}
+use Rattle.std.specs.Fmt.{digit_glyph}
 use Prim.Native.Char.{code}
 use Prim.Native.String.{String, [] as end, ◌∷◌ as ◌then◌}
-use Rattle.std.proofs.lemmas.List.Edits.{sets}
-use Rattle.io.specs.Digits.{hex_digit_ascii}
 
 -- the bytes of a word
 abbrev pub ascii : String → List ℕ
@@ -18,8 +18,7 @@ newline = code "\n" ∷ []
 
 -- things written one after the other, a blank before each
 abbrev pub spaced : (ℕ → List ℕ) → List ℕ → List ℕ
-spaced f [] = []
-spaced f (x ∷ xs) = (blank ++ f x) ++ spaced f xs
+spaced f = flat_map (λ x. blank ++ f x)
 
 -- ---- "all decimal"
 
@@ -30,7 +29,7 @@ leading r (suc m) = r (suc m)
 
 abbrev pub decimal_by : ℕ → ℕ → List ℕ
 decimal_by zero n = []
-decimal_by (suc k) n = leading (λ m. decimal_by k m) (n / 10) ++ (hex_digit_ascii (n % 10) ∷ [])
+decimal_by (suc k) n = leading (λ m. decimal_by k m) (n / 10) ++ (digit_glyph false (n % 10) ∷ [])
 
 -- a number's digits, the most significant first. It has at most n + 1, so the fuel does not run out.
 unfoldable pub decimal : ℕ → List ℕ
@@ -44,15 +43,8 @@ line w ns = w ++ spaced decimal ns ++ newline
 
 -- a byte's two digits
 abbrev pub spelled : ℕ → List ℕ
-spelled b = hex_digit_ascii (b / 16) ∷ hex_digit_ascii (b % 16) ∷ []
+spelled b = digit_glyph false (b / 16) ∷ digit_glyph false (b % 16) ∷ []
 
 abbrev pub hexadecimal : List ℕ → List ℕ
 hexadecimal [] = []
 hexadecimal (b ∷ bs) = spelled b ++ spaced spelled bs
-
--- ---- bytes in a buffer
-
--- xs stands from a place on, the rest keeps its content, and r is the place behind xs
-pub record Printed (old : List ℕ) (at : ℕ) (xs : List ℕ) (r : ℕ) (new : List ℕ) : Type 0 where
-  pub place : r ≡ at + length xs
-  pub bytes : new ≡ sets old at xs

@@ -1,18 +1,16 @@
 // Document 01's case 12, the smallest examples of its numbers 1 to 7, and the formulas of case 4's question.
 #![tactic(auto)]
 
-ghost use Rattle.std.specs.Prelude.{◌≤◌, length};
-
 use calculus::Side;
-use question::Reading;
+use print::{Hexadecimal, Refused};
+use question::Question;
 use std::io;
 
 // One line: what reading the bytes answers.
 fn read(rt: &impl Print, q: &[u8]) -> io::Result<()> {
-    let reading = question::read(q);
-    match reading {
-        Reading::Accepted => print::write_bytes(rt, b"accepted", b""),
-        Reading::Refused(r) => print::write_refused(rt, r),
+    match Question::read(q) {
+        Ok(_) => println!(rt; "accepted"),
+        Err(r) => print!(rt; "{}", Refused(r)),
     }
 }
 
@@ -105,47 +103,31 @@ fn longest(rt: &impl Print) -> io::Result<()> {
     q[1] = 16;
     q[178] = 0x20;
     q[179] = 16;
-    let mut i = 2;
-    while i < 50 {
-        q[i] = 3;
-        i += 1;
-    }
+    q[2..50].fill(3);
     read(rt, &q)
 }
 
-// A side's name and a place; answers the place behind them.
-fn put_place(name: &[u8], place: usize, out: &mut [u8]) -> usize
-    requires { (length name.now ≤ 5) × (28 ≤ length out.old) }
-    ensures { result ≤ 28 }
-{
-    let behind = print::put_word(name, out, 0);
-    let end = print::put_number(place as u64, out, behind);
-    print::put_word(b": ", out, end)
-}
-
 // One line: a side, a place, and the formula handed out there.
-fn hand_out(rt: &impl Print, q: &[u8], name: &[u8], side: Side, place: usize) -> io::Result<()>
-    requires { (length q.now ≤ 212) × (length name.now ≤ 5) }
-{
-    let f = question::formula(q, side, place);
-    let mut text = [0u8; 700];
-    let first = put_place(name, place, &mut text);
-    if f.len() == 0 {
-        let end = print::put_word(b"no bytes\n", &mut text, first);
-        return print::write(rt, &text, end);
+fn hand_out(rt: &impl Print, q: &[u8], side: Side, place: usize) -> io::Result<()> {
+    let name = match side {
+        Side::Left => "left",
+        Side::Right => "right",
+    };
+    let formula = question::formula(q, side, place);
+    if formula.is_empty() {
+        return println!(rt; "{name} {place}: no bytes");
     }
-    let end = print::put_bytes(f, &mut text, first);
-    print::write(rt, &text, end)
+    println!(rt; "{name} {place}: {}", Hexadecimal(formula))
 }
 
 // Case 4's question, with the place past the last on each side; then a question that is refused.
 fn formulas(rt: &impl Print) -> io::Result<()> {
     let q = b"\x10\x01\x02\x04\x01\x00\x01\x01\x20\x01\x02\x01\x00";
-    hand_out(rt, q, b"left", Side::Left, 0)?;
-    hand_out(rt, q, b"left", Side::Left, 1)?;
-    hand_out(rt, q, b"right", Side::Right, 0)?;
-    hand_out(rt, q, b"right", Side::Right, 1)?;
-    hand_out(rt, b"\x10\x01\x01\x00", b"left", Side::Left, 0)
+    hand_out(rt, q, Side::Left, 0)?;
+    hand_out(rt, q, Side::Left, 1)?;
+    hand_out(rt, q, Side::Right, 0)?;
+    hand_out(rt, q, Side::Right, 1)?;
+    hand_out(rt, b"\x10\x01\x01\x00", Side::Left, 0)
 }
 
 fn main(rt: HostRuntime) -> io::Result<()> {

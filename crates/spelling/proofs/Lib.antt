@@ -1,7 +1,5 @@
 -- The laws behind the functions' proofs. Assumes nothing.
 pub mod Order
-pub mod Writes
 pub mod Arranges
-pub mod Stands
-pub mod Spelled
+pub mod Writes
 pub mod Replies

@@ -1,107 +1,131 @@
--- Bytes compared from a position on, and a place put among others.
+-- Bytes put in among others that ascend.
 -- Assumes nothing.
-use mathlib.Core.Path.{◌≡◌, sym, ap, ◌∙◌}
-use mathlib.Core.List.{List, [], ◌∷◌, ◌++◌}
+use mathlib.Core.Path.{◌≡◌, refl, sym, ap, ◌∙◌, subst}
+use mathlib.Core.Bool.{Bool, true, false, false≢true}
+use mathlib.Core.List.{List, [], ◌∷◌, ◌++◌, map, map-append}
 use Prim.Native.Nat.{ℕ, zero, suc, ◌+◌, ◌-◌, ◌≤◌, ◌<◌}
-use native.Mathlib.Numerals.{add-one}
 use native.Mathlib.Omega.{arith}
-use lib.ListN.{length, take, drop, get_or, set, length-take, take-append-drop, drop_of_length-le, get_or-append}
-use lib.Seq.{drop-cons, take-suc, append_snoc, set_at, take-set-lt, get_or-take, length-take-le, take-take, slice_empty, slice-cons}
-use borrow.Author.Tests.{lt-ltb, le-ltb}
-use Rattle.calculus.specs.declared.Comparison.TheVariants.{Less, Equal, Greater}
-use Rattle.calculus.specs.Standard.{compare_byte, firstly, compare, insert}
-use Rattle.calculus.proofs.Folds.{each_at}
-use Rattle.spelling.specs.declared.Spot.TheVariants.{Before}
-use Rattle.spelling.specs.Places.{Inside, bytes_at, put_at, Listed}
+use lib.ListN.{length, take, drop, get_or, set, length-take, length-drop, length-set}
+use Rattle.std.proofs.Common.{Bor}
+use Rattle.std.specs.Prelude.{Option, Some, None, MatchOption, HoldsAt, nat_eq}
+use Rattle.std.specs.List.{AllWithin}
+use Rattle.std.specs.Option.{unwrap_or}
+use Rattle.std.specs.declared.cmp.Ordering.{Ordering}
+use Rattle.std.specs.declared.cmp.Ordering.TheVariants.{Less, Equal, Greater}
+use Rattle.std.specs.Ordering.{nat_cmp, is_le, is_some_and, partial_le}
+use Rattle.std.specs.Cmp.Lexicographic.{pointwise, slice_partial_cmp, lists_agrees}
+use Rattle.std.proofs.lemmas.Bool.Decides.{Decides-eqb}
+use Rattle.std.proofs.lemmas.List.{take-map, drop-map, take-take, drop-take, take-set, drop_all}
+use Rattle.std.proofs.lemmas.Slice.{take-put_mid}
+use Rattle.std.proofs.lemmas.Slice.Eq.{slice_eq-Decides}
+use Rattle.std.proofs.lemmas.Grind.{drop-set_at}
+use borrow.Rule.Slice.PartMut.{mid_of, put_mid}
+use Rattle.calculus.specs.Standard.{compare, place, insert}
+use Rattle.calculus.proofs.Standard.{map_insert, compare_self, compare_equal}
 
--- ---- bytes compared from position i on
+-- what `<=` answers at bytes
+pub at_most : (l m : List ℕ) → partial_le (slice_partial_cmp (λ a b. Some (nat_cmp a b))) l m ≡ is_le (compare l m)
+at_most l m = ap (is_some_and is_le) (lists_agrees (λ a b. refl) l m)
 
-module _ (x y : List ℕ) (i : ℕ) where
-  -- where both have a byte
-  opens : i < length x → i < length y
-      → compare (drop i x) (drop i y) ≡ firstly (compare_byte (get_or x i 0) (get_or y i 0)) (compare (drop (i + 1) x) (drop (i + 1) y))
-  opens h k = rw (add-one i, drop-cons x i 0, drop-cons y i 0)
+pub exceeds : (c : Ordering) → is_le c ≡ false → c ≡ Greater
+exceeds Less e = cc
+exceeds Equal e = cc
+exceeds Greater e = refl
 
-  pub less_at : i < length x → i < length y → get_or x i 0 < get_or y i 0 → compare (drop i x) (drop i y) ≡ Less
-  less_at h k l = rw (opens h k, lt-ltb (get_or x i 0) (get_or y i 0) l)
+pub less_of : (c : Ordering) → is_le c ≡ true → (c ≡ Equal → ⊥) → c ≡ Less
+less_of Less e n = refl
+less_of Equal e n = absurd (n refl)
+less_of Greater e n = cc
 
-  pub greater_at : i < length x → i < length y → get_or y i 0 < get_or x i 0 → compare (drop i x) (drop i y) ≡ Greater
-  greater_at h k l =
-      let m : get_or y i 0 ≤ get_or x i 0 = omega arith in
-      rw (opens h k, le-ltb (get_or x i 0) (get_or y i 0) m, lt-ltb (get_or y i 0) (get_or x i 0) l)
+pub length_insert : {X : Type 0} (spelt : X → List ℕ) (x : X) (ls : List X) → length (insert spelt x ls) ≤ length ls + 1
+length_insert spelt x [] = omega arith
+length_insert spelt x (y ∷ ls) = go (compare (spelt x) (spelt y)) (length_insert spelt x ls)
+  where
+    go : (c : Ordering) → length (insert spelt x ls) ≤ length ls + 1 → length (place c x y ls (insert spelt x ls)) ≤ length (y ∷ ls) + 1
+    go Less h = omega arith
+    go Equal h = omega arith
+    go Greater h = omega arith
 
-  pub equal_at : i < length x → i < length y → get_or x i 0 ≤ get_or y i 0 → get_or y i 0 ≤ get_or x i 0
-      → compare (drop i x) (drop i y) ≡ compare (drop (i + 1) x) (drop (i + 1) y)
-  equal_at h k l m = rw (opens h k, le-ltb (get_or x i 0) (get_or y i 0) m, le-ltb (get_or y i 0) (get_or x i 0) l)
+-- x exceeds those before place i
+module _ {X : Type 0} (spelt : X → List ℕ) (x : X) where
+  pub insert_there : (ls : List X) (i : ℕ) (d : X) → i < length ls → ((k : ℕ) → k < i → compare (spelt x) (spelt (get_or ls k d)) ≡ Greater)
+      → compare (spelt x) (spelt (get_or ls i d)) ≡ Equal
+      → insert spelt x ls ≡ ls
+  insert_there [] i d n b e = absurd (omega arith)
+  insert_there (l ∷ ls) zero d n b e = rw e
+  insert_there (l ∷ ls) (suc i) d n b e = rw (b 0 (omega arith), insert_there ls i d (omega arith) (λ k h. b (suc k) (omega arith)) e)
 
-  -- where one ends
-  pub goes_on : i < length x → length y ≤ i → compare (drop i x) (drop i y) ≡ Greater
-  goes_on h k = rw (drop-cons x i 0, drop_of_length-le y k)
+  pub insert_before : (ls : List X) (i : ℕ) (d : X) → i ≤ length ls → ((k : ℕ) → k < i → compare (spelt x) (spelt (get_or ls k d)) ≡ Greater)
+      → (i < length ls → compare (spelt x) (spelt (get_or ls i d)) ≡ Less)
+      → insert spelt x ls ≡ take i ls ++ (x ∷ drop i ls)
+  insert_before [] zero d n b l = refl
+  insert_before [] (suc i) d n b l = absurd (omega arith)
+  insert_before (y ∷ ls) zero d n b l = rw (l (omega arith))
+  insert_before (y ∷ ls) (suc i) d n b l = rw (b 0 (omega arith), insert_before ls i d (omega arith) (λ k h. b (suc k) (omega arith)) (λ h. l (omega arith)))
 
-  pub ends : length x ≤ i → i < length y → compare (drop i x) (drop i y) ≡ Less
-  ends h k = rw (drop_of_length-le x h, drop-cons y i 0)
+pub cut : (ls : List (Bor (List ℕ))) (x : Bor (List ℕ)) (i : ℕ) → map (λ f. f.now) (take i ls ++ (x ∷ drop i ls)) ≡ take i (map (λ f. f.now) ls) ++ (x.now ∷ drop i (map (λ f. f.now) ls))
+cut ls x i = map-append (λ f. f.now) (take i ls) (x ∷ drop i ls) ∙ rw (take-map (λ f. f.now) i ls, drop-map (λ f. f.now) i ls) refl
 
-  pub both_end : length x ≤ i → length y ≤ i → compare (drop i x) (drop i y) ≡ Equal
-  both_end h k = rw (drop_of_length-le x h, drop_of_length-le y k)
+-- the first that x does not exceed, or behind all
+module _ (ls : List (Bor (List ℕ))) (x : Bor (List ℕ)) (i : ℕ) where
+  abbrev pub At_most : Bor (List ℕ) → Bool
+  At_most f = partial_le (slice_partial_cmp (λ a b. Some (nat_cmp a b))) x.now f.now
 
--- ---- the places of q in the first n items
+  pub record Spot : Type 0 where
+    pub within : i ≤ length ls
+    pub behind : (k : ℕ) (d : Bor (List ℕ)) → k < i → compare x.now (get_or ls k d).now ≡ Greater
+    pub from : (d : Bor (List ℕ)) → i < length ls → is_le (compare x.now (get_or ls i d).now) ≡ true
 
-module _ (q items : List ℕ) (n : ℕ) (list : Listed q items n) where
-  fits : n ≤ length items
-  fits = omega (arith, list.few, list.size)
+  pub spot_found : (r : Option ℕ) → i ≡ unwrap_or r (length ls)
+      → MatchOption r (AllWithin (λ f. At_most f ≡ false) ls 0 (length ls)) (λ j. (j < length ls) × HoldsAt (λ f. At_most f ≡ true) ls j × AllWithin (λ f. At_most f ≡ false) ls 0 j)
+      → Spot
+  spot_found None e h =
+      record {
+        within = omega arith;
+        behind = λ k d l. exceeds (compare x.now (get_or ls k d).now) (sym (at_most x.now (get_or ls k d).now) ∙ h k d (omega arith) (omega arith));
+        from = λ d l. absurd (omega arith);
+      }
+  spot_found (Some j) e h =
+      record {
+        within = omega arith;
+        behind = λ k d l. exceeds (compare x.now (get_or ls k d).now) (sym (at_most x.now (get_or ls k d).now) ∙ h.2 k d (omega arith) (omega arith));
+        from = λ d l. let s : At_most (get_or ls i d) ≡ true = rw e (h.1 d) in sym (at_most x.now (get_or ls i d).now) ∙ s;
+      }
 
-  pub inside_at : (i : ℕ) → i < n → Inside q (get_or items i 0)
-  inside_at i h = rw (get_or-take n items i 0 h) at (each_at (Inside q) (take n items) i 0 list.inside (rw (length-take-le n items fits) h))
+  module _ (s : Spot) (d : Bor (List ℕ)) where
+    -- x is there
+    pub spot_there : i < length ls → pointwise nat_eq (get_or ls i d).now x.now ≡ true → insert (λ l. l) x.now (map (λ f. f.now) ls) ≡ map (λ f. f.now) ls
+    spot_there h e =
+        let same : x.now ≡ (get_or ls i d).now = sym ((slice_eq-Decides Decides-eqb (get_or ls i d).now x.now true (sym e)).0 refl) in
+        let equal : compare x.now (get_or ls i d).now ≡ Equal = subst (λ (l : List ℕ). compare x.now l ≡ Equal) same (compare_self x.now) in
+        sym (map_insert (λ f. f.now) (λ l. l) x ls) ∙ ap (map (λ f. f.now)) (insert_there (λ f. f.now) x ls i d h (λ k. s.behind k d) equal)
 
-  -- item i, cut from those behind it and added to those before it
-  pub cut : (i : ℕ) → i < n → drop i (take n items) ≡ get_or items i 0 ∷ drop (i + 1) (take n items)
-  cut i h = rw (add-one i) (slice-cons i n items 0 h fits)
+    -- x is not there
+    pub spot_before : (i < length ls → pointwise nat_eq (get_or ls i d).now x.now ≡ false)
+        → insert (λ l. l) x.now (map (λ f. f.now) ls) ≡ take i (map (λ f. f.now) ls) ++ (x.now ∷ drop i (map (λ f. f.now) ls))
+    spot_before n = sym (map_insert (λ f. f.now) (λ l. l) x ls) ∙ (ap (map (λ f. f.now)) (insert_before (λ f. f.now) x ls i d s.within (λ k. s.behind k d) less) ∙ cut ls x i)
+      where
+        less : i < length ls → compare x.now (get_or ls i d).now ≡ Less
+        less h = less_of (compare x.now (get_or ls i d).now) (s.from d h)
+            (λ e. false≢true (sym (n h) ∙ (slice_eq-Decides Decides-eqb (get_or ls i d).now x.now _ refl).1 (sym (compare_equal x.now (get_or ls i d).now e))))
 
-  pub grown : (i : ℕ) → i < n → take (i + 1) (take n items) ≡ take i (take n items) ++ (get_or items i 0 ∷ [])
-  grown i h =
-      let k : i < length (take n items) = rw (length-take-le n items fits) h in
-      rw (add-one i, ← get_or-take n items i 0 h) (take-suc (take n items) i 0 k)
+-- ---- x put in before place i of the first n: stored behind them, and turned with those from i on
 
-  -- p is to be put among those from i on
-  module _ (p i : ℕ) (same : take i (take n items) ++ insert (bytes_at q) p (drop i (take n items)) ≡ insert (bytes_at q) p (take n items)) where
-    module _ (h : i < n) where
-      pub before_it : compare (bytes_at q p) (bytes_at q (get_or items i 0)) ≡ Less → put_at (Before i) p (take n items) ≡ insert (bytes_at q) p (take n items)
-      before_it e = rw (cut i h) (rw (cut i h, e) at same)
+module _ {X : Type 0} (items : List X) (n i : ℕ) (x : X) (within : i ≤ n) (room : n < length items) where
+  part_length : length (mid_of i (n + 1 - i) items) ≡ n - i + 1
+  part_length = simp (length-take, length-drop) (omega arith)
 
-      pub there_it : compare (bytes_at q p) (bytes_at q (get_or items i 0)) ≡ Equal → take n items ≡ insert (bytes_at q) p (take n items)
-      there_it e = sym (take-append-drop i (take n items)) ∙ rw (cut i h) (rw (cut i h, e) at same)
+  pub turned : (ys : List X) → ys ≡ set (mid_of i (n + 1 - i) items) (n - i) x → drop (length ys - 1) ys ++ take (length ys - 1) ys ≡ x ∷ take (n - i) (drop i items)
+  turned ys e =
+      let p = mid_of i (n + 1 - i) items in
+      let k : length ys - 1 ≡ n - i = omega (arith, ap length e ∙ length-set p (n - i) x, part_length) in
+      let last : drop (n - i + 1) p ≡ [] = drop_all (n - i + 1) p (omega (arith, part_length)) in
+      let first : take (n - i) p ≡ take (n - i) (drop i items) = take-take (n - i) (n + 1 - i) (drop i items) (omega arith) in
+      rw (k, e, drop-set_at p (n - i) (n - i) x refl (omega (arith, part_length)), last, take-set p (n - i) x, first)
 
-      pub behind_it : compare (bytes_at q p) (bytes_at q (get_or items i 0)) ≡ Greater
-          → take (i + 1) (take n items) ++ insert (bytes_at q) p (drop (i + 1) (take n items)) ≡ insert (bytes_at q) p (take n items)
-      behind_it e = rw (grown i h, append_snoc) (rw (cut i h, e) at same)
-
-    pub behind_all : i ≡ n → put_at (Before n) p (take n items) ≡ insert (bytes_at q) p (take n items)
-    behind_all z = rw (slice_empty n items) (rw (z, slice_empty n items) at same)
-
--- ---- items moved up by one from the last: a place put in at n, at the one before, and so on
-
-pub put_last : (items : List ℕ) (n : ℕ) → n < length items → take (n + 1) items ≡ put_at (Before n) (get_or items n 0) (take n items)
-put_last items n h = let k : n ≤ n = omega arith in rw (add-one n, take-suc items n 0, take-take n n items, slice_empty n items)
-
-module _ (items ps : List ℕ) (n : ℕ) (size : length ps ≡ n) where
-  -- what stands at j is written over
-  pub put_over : (j w v : ℕ) → j ≤ n → take (n + 1) items ≡ put_at (Before j) w ps → take (n + 1) (set items j v) ≡ put_at (Before j) v ps
-  put_over j w v h e =
-      let k : length (take j ps) ≡ j = simp length-take (omega arith) in
-      let l : j < n + 1 = omega arith in
-      rw (take-set-lt (n + 1) items j v l, e, set_at (take j ps) w (drop j ps) v j k)
-
-  -- it is written over by the one before, which then may be
-  pub put_back : (j w : ℕ) → 0 < j → j ≤ n → take (n + 1) items ≡ put_at (Before j) w ps
-      → take (n + 1) (set items j (get_or items (j - 1) 0)) ≡ put_at (Before (j - 1)) (get_or items (j - 1) 0) ps
-  put_back zero w p h e = absurd (omega arith)
-  put_back (suc m) w p h e =
-      let z : suc m - 1 ≡ m = omega arith in
-      let k : m < length (take (suc m) ps) = simp length-take (omega arith) in
-      let l : m < length ps = omega arith in
-      let x : get_or items m 0 ≡ get_or ps m 0 =
-      sym (get_or-take (n + 1) items m 0 (omega arith))
-      ∙ ap (λ (xs : List ℕ). get_or xs m 0) e
-      ∙ get_or-append (take (suc m) ps) (w ∷ drop (suc m) ps) 0 m k
-      ∙ get_or-take (suc m) ps m 0 (omega arith) in
-      rw z (put_over (suc m) w (get_or items m 0) h e ∙ rw (x, take-suc ps m 0, append_snoc, ← drop-cons ps m 0))
+  pub put_in : (ys : List X) → ys ≡ x ∷ take (n - i) (drop i items) → take (n + 1) (put_mid i (n + 1 - i) items ys) ≡ take i (take n items) ++ (x ∷ drop i (take n items))
+  put_in ys e =
+      let size : length ys ≡ n - i + 1 = ap length e ∙ simp (length-take, length-drop) (omega arith) in
+      let whole : i + (n - i) ≡ n = omega arith in
+      let rest : drop i (take n items) ≡ take (n - i) (drop i items) = rw whole at (drop-take i (n - i) items) in
+      take-put_mid i (n + 1 - i) items ys (n + 1) (omega (arith, size)) (omega arith) ∙ rw (e, rest, take-take i n items within)

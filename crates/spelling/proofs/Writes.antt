@@ -1,92 +1,85 @@
--- The bytes at places, one after the other: counted and written.
+-- Formulas counted and written, one after the other.
 -- Assumes nothing.
 use mathlib.Core.Path.{◌≡◌, refl, sym, ap, ◌∙◌}
-use mathlib.Core.List.{List, [], ◌∷◌, ◌++◌}
-use Prim.Native.Nat.{ℕ, suc, ◌+◌, ◌-◌, ◌≤◌, ◌<◌}
-use native.Mathlib.Nat.{add-zero}
-use native.Mathlib.Numerals.{add-one}
+use mathlib.Core.List.{List, [], ◌∷◌, ◌++◌, map, append_assoc, append-nil}
+use Prim.Native.Nat.{ℕ, ◌+◌, ◌-◌, ◌≤◌, ◌<◌}
 use native.Mathlib.Omega.{arith}
-use lib.ListN.{length, take, drop, get_or, set, length-append, length-drop, length-set, drop_of_length-le}
-use lib.Seq.{drop-cons, length-take-le, sets, length-sets}
-use Rattle.calculus.proofs.Buffers.{sets_append}
-use Rattle.spelling.specs.Places.{start_in, end_in, Inside, bytes_at, bytes_in, Listed}
-use Rattle.spelling.proofs.Order.{inside_at, cut}
+use lib.ListN.{length, take, drop, get_or, set, length-append, length-drop, length-map}
+use Rattle.std.proofs.Common.{Bor, drop-drop}
+use Rattle.std.specs.Prelude.{sum_by, flat_map}
+use Rattle.std.specs.List.{concat}
+use Rattle.std.proofs.lemmas.List.{take_at, drop_at, take_all, take-append-drop}
+use Rattle.std.proofs.lemmas.List.{take-map, map_more}
+use Rattle.std.proofs.lemmas.List.Concat.{flat_map-cons, length-flat_map}
+use Rattle.std.proofs.lemmas.List.Folds.{concat-append}
+use borrow.Rule.Slice.PartMut.{put_mid}
+use Rattle.calculus.specs.Syntax.{Formula}
+use Rattle.calculus.specs.Bytes.{encode, encode_all}
 
--- ---- bytes one by one: those from i on are to be stored
+joined : (ls : List (Bor (List ℕ))) → flat_map (λ f. f.now) ls ≡ concat (map (λ f. f.now) ls)
+joined [] = refl
+joined (l ∷ ls) = flat_map-cons (λ f. f.now) l ls ∙ ap (λ (m : List ℕ). l.now ++ m) (joined ls)
 
-pub record Storing (old : List ℕ) (at : ℕ) (bs out : List ℕ) (i : ℕ) : Type 0 where
-  pub upto : i ≤ length bs
-  pub size : length out ≡ length old
-  pub same : sets out (at + i) (drop i bs) ≡ sets old at bs
+pub counted : (ls : List (Bor (List ℕ))) → sum_by (λ f. length f.now) ls ≡ length (concat (map (λ f. f.now) ls))
+counted ls = sym (length-flat_map (λ f. f.now) ls) ∙ ap length (joined ls)
 
-pub storing_first : (old : List ℕ) (at : ℕ) (bs : List ℕ) → Storing old at bs old 0
-storing_first old at bs = record { upto = omega arith; size = refl; same = rw (add-zero at) }
+pub spelled : (xs : List Formula) → concat (map encode xs) ≡ encode_all xs
+spelled [] = refl
+spelled (x ∷ xs) = ap (λ (l : List ℕ). encode x ++ l) (spelled xs)
 
-module _ (old : List ℕ) (at : ℕ) (bs out : List ℕ) (i : ℕ) (a : Storing old at bs out i) where
-  pub storing_next : i < length bs → Storing old at bs (set out (at + i) (get_or bs i 0)) (i + 1)
-  storing_next h =
-      let e : at + suc i ≡ suc (at + i) = omega arith in
-      record {
-        upto = omega arith;
-        size = length-set out (at + i) (get_or bs i 0) ∙ a.size;
-        same = rw (add-one i, e) (rw (drop-cons bs i 0 h) at a.same);
-      }
+-- behind `head` the first i of ls are written, up to `at`
+pub record Writing (head : List ℕ) (ls : List (List ℕ)) (old out : List ℕ) (at i : ℕ) : Type 0 where
+  pub upto : i ≤ length ls
+  pub room : length head + length (concat ls) ≤ length old
+  pub ends : at ≡ length (head ++ concat (take i ls))
+  pub written : out ≡ (head ++ concat (take i ls)) ++ drop at old
 
-  pub storing_last : length bs ≤ i → out ≡ sets old at bs
-  storing_last h = rw (drop_of_length-le bs h) at a.same
+-- bytes written behind others
+pub written_more : (a bs old : List ℕ) (at k : ℕ) → at ≡ length a → k ≡ length bs → at + k ≤ length old → put_mid at k (a ++ drop at old) bs ≡ (a ++ bs) ++ drop (at + k) old
+written_more a bs old at k e f r =
+    let first : take at (a ++ drop at old) ≡ a = take_at a (drop at old) at (sym e) in
+    let rest : drop at (a ++ drop at old) ≡ drop at old = drop_at a (drop at old) at (sym e) in
+    rw (first, rest, drop-drop k at old) (sym (append_assoc a bs (drop (at + k) old)))
 
--- two bytes, and what follows
-pub headed : (l : List ℕ) (at h n : ℕ) (bs : List ℕ) → sets (set (set l at h) (at + 1) n) (at + 2) bs ≡ sets l at (h ∷ n ∷ bs)
-headed l at h n bs =
-    let e : at + 2 ≡ suc (suc at) = omega arith in
-    rw (add-one at, e)
+pub writing_first : (b n : ℕ) (ls : List (List ℕ)) (old : List ℕ) → 2 + length (concat ls) ≤ length old → Writing (b ∷ n ∷ []) ls old (set (set old 0 b) 1 n) 2 0
+writing_first b n ls [] r = absurd (omega arith)
+writing_first b n ls (x ∷ []) r = absurd (omega arith)
+writing_first b n ls (x ∷ y ∷ old) r = record { upto = omega arith; room = r; ends = refl; written = refl }
 
--- ---- places one by one
+module _ (head : List ℕ) (ls : List (Bor (List ℕ))) (old out : List ℕ) (at i : ℕ) (w : Writing head (map (λ f. f.now) ls) old out at i) where
+  module _ (h : i < length ls) (d : Bor (List ℕ)) where
+    one_more : concat (take (i + 1) (map (λ f. f.now) ls)) ≡ concat (take i (map (λ f. f.now) ls)) ++ (get_or ls i d).now
+    one_more =
+        ap concat (take-map (λ f. f.now) (i + 1) ls ∙ map_more (λ f. f.now) ls i d h)
+        ∙ (concat-append (map (λ f. f.now) (take i ls)) ((get_or ls i d).now ∷ []) ∙ rw (append-nil (get_or ls i d).now, ← take-map (λ f. f.now) i ls) refl)
 
--- the bytes at a place, counted
-pub length_at : (q : List ℕ) (p : ℕ) → Inside q p → length (bytes_at q p) ≡ end_in p - start_in p
-length_at q p h = length-take-le (end_in p - start_in p) (drop (start_in p) q) (omega (arith, h, length-drop (start_in p) q))
+    rest : concat (map (λ f. f.now) ls) ≡ concat (take (i + 1) (map (λ f. f.now) ls)) ++ concat (drop (i + 1) (map (λ f. f.now) ls))
+    rest = ap concat (sym (take-append-drop (i + 1) (map (λ f. f.now) ls))) ∙ concat-append (take (i + 1) (map (λ f. f.now) ls)) (drop (i + 1) (map (λ f. f.now) ls))
 
-module _ (q items : List ℕ) (n i : ℕ) (list : Listed q items n) (h : i < n) where
-  pub bytes_item : bytes_in q (drop i (take n items)) ≡ bytes_at q (get_or items i 0) ++ bytes_in q (drop (i + 1) (take n items))
-  bytes_item = rw (cut q items n list i h)
+    more_ends : at + length (get_or ls i d).now ≡ length (head ++ concat (take (i + 1) (map (λ f. f.now) ls)))
+    more_ends = rw one_more (omega (arith, w.ends, length-append head (concat (take i (map (λ f. f.now) ls))), length-append head (concat (take i (map (λ f. f.now) ls)) ++ (get_or ls i d).now), length-append (concat (take i (map (λ f. f.now) ls))) (get_or ls i d).now))
 
-  pub count_item : length (bytes_in q (drop i (take n items))) ≡ end_in (get_or items i 0) - start_in (get_or items i 0) + length (bytes_in q (drop (i + 1) (take n items)))
-  count_item =
-      ap length bytes_item ∙ (length-append (bytes_at q (get_or items i 0)) (bytes_in q (drop (i + 1) (take n items)))
-      ∙ ap (λ (m : ℕ). m + length (bytes_in q (drop (i + 1) (take n items)))) (length_at q (get_or items i 0) (inside_at q items n list i h)))
+    more_room : at + length (get_or ls i d).now ≤ length old
+    more_room = omega (arith, w.room, more_ends, length-append head (concat (take (i + 1) (map (λ f. f.now) ls))), ap length rest, length-append (concat (take (i + 1) (map (λ f. f.now) ls))) (concat (drop (i + 1) (map (λ f. f.now) ls))))
 
-pub none_left : (q items : List ℕ) (n i : ℕ) → Listed q items n → n ≤ i → bytes_in q (drop i (take n items)) ≡ []
-none_left q items n i list h =
-    let k : length (take n items) ≡ n = length-take-le n items (omega (arith, list.few, list.size)) in
-    let m : length (take n items) ≤ i = omega arith in
-    ap (bytes_in q) (drop_of_length-le (take n items) m)
+    pub writing_room : at + length (get_or ls i d).now ≤ length out
+    writing_room = omega (arith, more_room, ap length w.written, length-append (head ++ concat (take i (map (λ f. f.now) ls))) (drop at old), length-drop at old, w.ends)
 
--- the bytes at the places from i on are to be stored from k on
-pub record Writing (q items : List ℕ) (n : ℕ) (old : List ℕ) (at : ℕ) (out : List ℕ) (k i : ℕ) : Type 0 where
-  pub upto : i ≤ n
-  pub size : length out ≡ length old
-  pub ends : k + length (bytes_in q (drop i (take n items))) ≡ at + length (bytes_in q (take n items))
-  pub same : sets out k (bytes_in q (drop i (take n items))) ≡ sets old at (bytes_in q (take n items))
+    pub writing_next : Writing head (map (λ f. f.now) ls) old (put_mid at (at + length (get_or ls i d).now - at) out (get_or ls i d).now) (at + length (get_or ls i d).now) (i + 1)
+    writing_next =
+        let bs = (get_or ls i d).now in
+        let a = head ++ concat (take i (map (λ f. f.now) ls)) in
+        let k : at + length bs - at ≡ length bs = omega arith in
+        let e : a ++ bs ≡ head ++ concat (take (i + 1) (map (λ f. f.now) ls)) = append_assoc head (concat (take i (map (λ f. f.now) ls))) bs ∙ ap (λ (l : List ℕ). head ++ l) (sym one_more) in
+        record {
+          upto = simp length-map (omega arith);
+          room = w.room;
+          ends = more_ends;
+          written = rw (k, w.written) (written_more a bs old at (length bs) w.ends refl more_room ∙ ap (λ (l : List ℕ). l ++ drop (at + length bs) old) e);
+        }
 
-pub writing_first : (q items : List ℕ) (n : ℕ) (old : List ℕ) (at : ℕ) → Writing q items n old at old at 0
-writing_first q items n old at = record { upto = omega arith; size = refl; ends = refl; same = refl }
-
-module _ (q items : List ℕ) (n : ℕ) (old : List ℕ) (at : ℕ) (out : List ℕ) (k i : ℕ) (list : Listed q items n) (a : Writing q items n old at out k i) where
-  pub writing_room : i < n → at + length (bytes_in q (take n items)) ≤ length old → k + length (bytes_at q (get_or items i 0)) ≤ length out
-  writing_room h r = omega (arith, a.size, a.ends, count_item q items n i list h, length_at q (get_or items i 0) (inside_at q items n list i h))
-
-  pub writing_next : i < n → Writing q items n old at (sets out k (bytes_at q (get_or items i 0))) (k + length (bytes_at q (get_or items i 0))) (i + 1)
-  writing_next h =
-      let bs = bytes_at q (get_or items i 0) in
-      record {
-        upto = omega arith;
-        size = length-sets out k bs ∙ a.size;
-        ends = omega (arith, a.ends, count_item q items n i list h, length_at q (get_or items i 0) (inside_at q items n list i h));
-        same = sets_append out k bs (bytes_in q (drop (i + 1) (take n items))) ∙ (ap (sets out k) (sym (bytes_item q items n i list h)) ∙ a.same);
-      }
-
-  pub writing_last : n ≤ i → (k ≡ at + length (bytes_in q (take n items))) × (out ≡ sets old at (bytes_in q (take n items)))
+  pub writing_last : length ls ≤ i → (at ≡ length (head ++ concat (map (λ f. f.now) ls))) × (out ≡ (head ++ concat (map (λ f. f.now) ls)) ++ drop (length (head ++ concat (map (λ f. f.now) ls))) old)
   writing_last h =
-      let e = none_left q items n i list h in
-      (omega (arith, a.ends, ap length e), rw e at a.same)
+      let all : take i (map (λ f. f.now) ls) ≡ map (λ f. f.now) ls = take_all i (map (λ f. f.now) ls) (simp length-map h) in
+      let e : at ≡ length (head ++ concat (map (λ f. f.now) ls)) = rw all at w.ends in
+      (e, rw (← e) (rw all at w.written))

@@ -1,5 +1,5 @@
 -- The number and values of each answer of the call, and what holds of the spelling.
-use Rattle.std.specs.Prelude.{◌≡◌, ◌↔◌, List, [], ◌∷◌, ℕ, ◌≤◌, length}
+use Rattle.std.specs.Prelude.{◌≡◌, ◌↔◌, List, [], ◌∷◌, ℕ, ◌≤◌, length, Result, Ok, Err}
 use Rattle.calculus.specs.declared.Side.{Side}
 use Rattle.calculus.specs.Limits.{NO_SPACE}
 use Rattle.calculus.specs.Syntax.{on_side}
@@ -9,13 +9,13 @@ use Rattle.calculus.specs.Truth.{truth, Valid}
 use Rattle.calculus.specs.Standard.{spelling, SameSets, AscendsByBytes}
 use Rattle.calculus.specs.Reply.{Reply}
 use Rattle.question.specs.Answers.{number_of, place_of}
-use Rattle.spelling.specs.declared.Spelling.{Spelling}
-use Rattle.spelling.specs.declared.Spelling.TheVariants.{Refused, NoSpace, Spelled}
+use Rattle.spelling.specs.declared.NotSpelled.{NotSpelled}
+use Rattle.spelling.specs.declared.NotSpelled.TheVariants.{Refused, NoSpace}
 
-abbrev pub spelling_of : Spelling → Reply
-spelling_of (Refused r) = record { number = number_of r; values = place_of r ∷ [] }
-spelling_of (NoSpace n) = record { number = NO_SPACE; values = n ∷ [] }
-spelling_of (Spelled n) = record { number = 0; values = n ∷ [] }
+abbrev pub spelling_of : Result ℕ NotSpelled → Reply
+spelling_of (Ok n) = record { number = 0; values = n ∷ [] }
+spelling_of (Err (Refused r)) = record { number = number_of r; values = place_of r ∷ [] }
+spelling_of (Err (NoSpace n)) = record { number = NO_SPACE; values = n ∷ [] }
 
 -- bs spell the question q
 pub record Spells (q bs : List ℕ) : Type 0 where

@@ -1,3 +1,2 @@
 -- What the contracts cite beside the definitions of documents 01 and 02.
-pub mod Places
 pub mod Answers

@@ -2,42 +2,26 @@
 // questions, and the spelling of a spelling. A buffer holds 99 where nothing is written.
 #![tactic(auto)]
 
-ghost use Rattle.std.specs.Prelude.{◌≤◌, length};
-
-use spelling::Spelling;
+use print::{Hexadecimal, Refused};
+use spelling::NotSpelled;
 use std::io;
 
 // One line: what the call answered.
-fn answer(rt: &impl Print, a: Spelling) -> io::Result<()> {
+fn answer(rt: &impl Print, a: Result<usize, NotSpelled>) -> io::Result<()> {
     match a {
-        Spelling::Refused(r) => print::write_refused(rt, r),
-        Spelling::NoSpace(n) => {
-            let numbers = [n as u64];
-            print::write_line(rt, b"no space 11", &numbers)
-        }
-        Spelling::Spelled(n) => {
-            let numbers = [n as u64];
-            print::write_line(rt, b"spelled", &numbers)
-        }
+        Ok(n) => println!(rt; "spelled {n}"),
+        Err(NotSpelled::Refused(r)) => print!(rt; "{}", Refused(r)),
+        Err(NotSpelled::NoSpace(n)) => println!(rt; "no space 11 {n}"),
     }
-}
-
-// One line: what a buffer of 40 bytes or fewer holds.
-fn show(rt: &impl Print, buffer: &[u8]) -> io::Result<()>
-    requires { length buffer.now ≤ 40 }
-{
-    if buffer.len() == 0 {
-        return print::write_bytes(rt, b"buffer", buffer);
-    }
-    print::write_bytes(rt, b"buffer ", buffer)
 }
 
 // What the call answers, and what the lent buffer holds after it.
-fn lend(rt: &impl Print, q: &[u8], buffer: &mut [u8]) -> io::Result<()>
-    requires { length buffer.old ≤ 40 }
-{
+fn lend(rt: &impl Print, q: &[u8], buffer: &mut [u8]) -> io::Result<()> {
     answer(rt, spelling::spell(q, buffer))?;
-    show(rt, buffer)
+    if buffer.is_empty() {
+        return println!(rt; "buffer");
+    }
+    println!(rt; "buffer {}", Hexadecimal(buffer))
 }
 
 // A buffer of 16 bytes.
@@ -106,20 +90,13 @@ fn refused(rt: &impl Print) -> io::Result<()> {
     lend(rt, b"\x10\x01\x01\x02\x20\x00\x01", &mut none)
 }
 
-// The first n bytes of a buffer, spelled.
-fn spell_first(rt: &impl Print, buffer: &[u8], n: usize) -> io::Result<()> {
-    if n <= buffer.len() {
-        spell(rt, &buffer[0..n])?;
-    }
-    Ok(())
-}
-
 // The spelling of a spelling.
 fn again(rt: &impl Print, q: &[u8]) -> io::Result<()> {
     let mut buffer = [0x99u8; 16];
-    let a = spelling::spell(q, &mut buffer);
-    if let Spelling::Spelled(n) = a {
-        spell_first(rt, &buffer, n)?;
+    if let Ok(n) = spelling::spell(q, &mut buffer)
+        && let Some(spelled) = buffer.get(..n)
+    {
+        spell(rt, spelled)?;
     }
     Ok(())
 }

@@ -2,43 +2,28 @@
 // not next to each other, and letters 32 and 63.
 #![tactic(auto)]
 
-ghost use Rattle.std.specs.Prelude.{◌≤◌, length};
-
-use states::Listing;
+use print::{Line, Refused};
+use states::NotListed;
 use std::io;
 
 // One line: what the call answered.
-fn answer(rt: &impl Print, a: Listing) -> io::Result<()> {
+fn answer(rt: &impl Print, a: Result<usize, NotListed>) -> io::Result<()> {
     match a {
-        Listing::Refused(r) => print::write_refused(rt, r),
-        Listing::ManyLetters(n) => {
-            let numbers = [n as u64];
-            print::write_line(rt, b"many letters 12", &numbers)
-        }
-        Listing::NoSpace(n) => {
-            let numbers = [n as u64];
-            print::write_line(rt, b"no space 11", &numbers)
-        }
-        Listing::Listed(n) => {
-            let numbers = [n as u64];
-            print::write_line(rt, b"listed", &numbers)
-        }
+        Ok(n) => println!(rt; "listed {n}"),
+        Err(NotListed::Refused(r)) => print!(rt; "{}", Refused(r)),
+        Err(NotListed::ManyLetters(n)) => println!(rt; "many letters 12 {n}"),
+        Err(NotListed::NoSpace(n)) => println!(rt; "no space 11 {n}"),
     }
 }
 
-// One line: what a slice of five places or fewer holds.
-fn show(rt: &impl Print, list: &[u64]) -> io::Result<()>
-    requires { length list.now ≤ 5 }
-{
-    print::write_line(rt, b"slice", list)
-}
-
 // What the call answers, and what the lent slice holds after it.
-fn lend(rt: &impl Print, q: &[u8], list: &mut [u64]) -> io::Result<()>
-    requires { length list.old ≤ 5 }
-{
+fn lend(rt: &impl Print, q: &[u8], list: &mut [u64]) -> io::Result<()> {
     answer(rt, states::refuting_states(q, list))?;
-    show(rt, list)
+    let slice = Line {
+        word: "slice",
+        numbers: list,
+    };
+    print!(rt; "{slice}")
 }
 
 // Five places that hold 99.

@@ -12,16 +12,12 @@ use Rattle.calculus.specs.Fold.{fold, SUM}
 use Rattle.calculus.specs.Limits.{CONNECTIVES}
 use Rattle.calculus.specs.Syntax.{on_side, connectives, c}
 use Rattle.calculus.specs.Bytes.{question}
-use Rattle.calculus.specs.Reading.{accepted, refused, reading}
-use Rattle.calculus.specs.Reply.{width_reply}
+use Rattle.calculus.specs.Reading.{accepted, reading}
 use Rattle.calculus.proofs.Bounds.{W_bound}
 use Rattle.calculus.proofs.Readings.{accepted_question}
-use Rattle.question.specs.declared.Refusal.{Refusal}
-use Rattle.question.specs.Answers.{number_of, place_of}
-use Rattle.width.specs.declared.Product.{Product}
-use Rattle.width.specs.declared.Measure.TheVariants.{Refused, Of}
+use Rattle.width.specs.declared.Walked.{Walked}
 use Rattle.width.specs.Walks.{product_of}
-use Rattle.width.specs.Answers.{width_of, Sized}
+use Rattle.width.specs.Answers.{Sized}
 
 module _ (q : List ℕ) (a : reading q ≡ accepted) where
   all_counted : c (question q) ≤ CONNECTIVES
@@ -32,24 +28,11 @@ module _ (q : List ℕ) (a : reading q ≡ accepted) where
   side_counted Right = omega (arith, all_counted)
 
   -- W and c of both sides' products
-  pub sized : (m n : ℕ) (l r : Product) → l ≡ product_of Left m (question q).on_left → r ≡ product_of Right n (question q).on_right
-      → Sized q (l.width * r.width) (l.connectives + r.connectives)
+  pub sized : (m n : ℕ) (l r : Walked ℕ) → l ≡ product_of Left m (question q).on_left → r ≡ product_of Right n (question q).on_right
+      → Sized q (l.value * r.value) (l.connectives + r.connectives)
   sized m n l r e h = rw (e, h) (record { is_width = refl; is_count = refl; bounded = W_bound (question q) })
 
   pub sized_fits : (w n : ℕ) → Sized q w n → (w ≤ 2 ^ CONNECTIVES) × (n ≤ CONNECTIVES)
   sized_fits w n z =
       let k : n ≤ CONNECTIVES = omega (arith, z.is_count, all_counted) in
       (le_trans z.bounded (pow_mono {j = CONNECTIVES} k), k)
-
-  pub answer_sized : (w n : ℕ) → Sized q w n → (width_of (Of w n) ≡ width_reply q) × ((v m : ℕ) → Of w n ≡ Of v m → Sized q v m)
-  answer_sized w n z = (rw (a, z.is_width, z.is_count), same)
-    where
-      same : (v m : ℕ) → Of w n ≡ Of v m → Sized q v m
-      same v m e =
-          let i : w ≡ v = cc in
-          let j : n ≡ m = cc in
-          rw (← i, ← j) z
-
-pub answer_refused : (q : List ℕ) (r : Refusal) → refused (number_of r) (place_of r) ≡ reading q
-    → (width_of (Refused r) ≡ width_reply q) × ((v m : ℕ) → Refused r ≡ Of v m → Sized q v m)
-answer_refused q r e = (rw (← e), λ v m h. let z : ◌≡◌ {A = ℕ} 0 1 = cc in absurd (omega arith))

@@ -9,12 +9,15 @@ use Rattle.calculus.specs.Bytes.{bytes_all}
 use Rattle.calculus.specs.Width.{wide, width}
 use Rattle.question.specs.Positions.{formula_at, end_of}
 use Rattle.width.specs.declared.Pair.{Pair}
-use Rattle.width.specs.declared.Walk.{Walk}
-use Rattle.width.specs.declared.Product.{Product}
+use Rattle.width.specs.declared.Walked.{Walked}
 
 abbrev pub side_of : Pair → Side → ℕ
 side_of w Left = w.left
 side_of w Right = w.right
+
+-- "NOT exchanges the pair"
+abbrev pub exchanged : Pair → Pair
+exchanged f = record { left = f.right; right = f.left }
 
 abbrev pub joined : Binary → Pair → Pair → Pair
 joined o f g = record { left = wide o Left (side_of f) (side_of g); right = wide o Right (side_of f) (side_of g) }
@@ -26,9 +29,9 @@ Fit f g = (o : Binary) (s : Side) → wide o s (side_of f) (side_of g) ≤ 2 ^ C
 abbrev pub pair_of : Formula → Pair
 pair_of x = record { left = width Left x; right = width Right x }
 
-abbrev pub walk_of : List ℕ → ℕ → Walk
-walk_of q at = record { pair = pair_of (formula_at q at); connectives = connectives (formula_at q at); end = end_of q at }
+abbrev pub walk_of : List ℕ → ℕ → Walked Pair
+walk_of q at = record { value = pair_of (formula_at q at); connectives = connectives (formula_at q at); end = end_of q at }
 
 -- several formulas, each on a side, that end behind a position
-abbrev pub product_of : Side → ℕ → List Formula → Product
-product_of s at xs = record { width = fold PRODUCT (width s) xs; connectives = fold SUM connectives xs; end = at + bytes_all xs }
+abbrev pub product_of : Side → ℕ → List Formula → Walked ℕ
+product_of s at xs = record { value = fold PRODUCT (width s) xs; connectives = fold SUM connectives xs; end = at + bytes_all xs }

@@ -1,52 +1,59 @@
-use Rattle.std.proofs.Common.{[], ◌∷◌, ◌+◌, ◌≤◌, ◌<◌, refl, sym, ap, subst, arith}
+use Rattle.std.proofs.Common.{◌≡◌, [], ◌∷◌, sym, ap, subst, arith, rules}
+use Rattle.std.specs.Prelude.{Err}
 use Rattle.calculus.specs.Syntax.{Sequent, c as connectives}
-use Rattle.sequent.specs.declared.Rule.{Rule}
 use Rattle.sequent.specs.View.{view, sequent_of}
-use Rattle.sequent.specs.Compounds.{premise_by, compound_at, rule_for}
+use Rattle.sequent.specs.Compounds.{premise_by, compound_at}
 use Rattle.sequent.proofs.Goods.{premises_made, few, makes_next, premise_asks, made_is, made_good, made_stores, command_made}
 use Rattle.checker.specs.Walks.{Roomy, Walks}
-use Rattle.checker.proofs.Walking.{cut_short, walk_stopped, walk_closed, walk_paired, walk_reduced, Ahead, ahead_starts, ahead_goes, ahead_stops, ahead_ends, roomy_next}
+use Rattle.checker.proofs.Walking.{cut_short, walk_stopped, walk_closed, walk_paired, walk_reduced, ahead_starts, ahead_goes, ahead_stops, ahead_ends, roomy_next}
 use Rattle.checker.proofs.+walk_walk_premise_walk_premises.Goals as goal
 
 -- ---- one command
 
 pub walk-returns-then-d-at-lt2 : goal.walk-returns-then-d-at-lt2
-walk-returns-then-d-at-lt2 t c = let a = c.args in cut_short a.d.now a.at c.if-d-at-lt2.true (sequent_of a.nodes.now a.items.now a.s)
+walk-returns-then-d-at-lt2 t c = let a = c.args in cut_short a.d.now a.at c.if-d-at-lt2.true (sequent_of a.t.nodes.now a.t.items.now a.s)
 
-pub walk-returns-in-Stop : goal.walk-returns-in-Stop
-walk-returns-in-Stop t c =
+pub walk-returns-in_err-next : goal.walk-returns-in_err-next
+walk-returns-in_err-next t c =
     let a = c.args in
-    let m = c.in-Stop in
-    walk_stopped a.d.now a.at (omega (arith, c.if-d-at-lt2.false)) (sequent_of a.nodes.now a.items.now a.s) m.f m.ensures.0 m.ensures.1
+    let m = c.in_err-next in
+    let e : c.from_residual.result ≡ Err m.field-0.0 = search rules in
+    rw e (walk_stopped a.d.now a.at (omega (arith, c.if-d-at-lt2.false)) (sequent_of a.t.nodes.now a.t.items.now a.s) m.field-0.0 m.ensures.0 m.ensures.1)
 
 pub walk-returns-in-Closed : goal.walk-returns-in-Closed
-walk-returns-in-Closed t c = let a = c.args in walk_closed a.d.now a.at (omega (arith, c.if-d-at-lt2.false)) (sequent_of a.nodes.now a.items.now a.s) c.in-Closed.ensures
+walk-returns-in-Closed t c = let a = c.args in walk_closed a.d.now a.at (omega (arith, c.if-d-at-lt2.false)) (sequent_of a.t.nodes.now a.t.items.now a.s) (rw c.in-Closed.is at c.in_ok-next.ensures)
 
 pub walk-returns-in-Paired : goal.walk-returns-in-Paired
-walk-returns-in-Paired t c = let a = c.args in walk_paired a.d.now a.at (omega (arith, c.if-d-at-lt2.false)) (sequent_of a.nodes.now a.items.now a.s) c.in-Paired.ensures
+walk-returns-in-Paired t c = let a = c.args in walk_paired a.d.now a.at (omega (arith, c.if-d-at-lt2.false)) (sequent_of a.t.nodes.now a.t.items.now a.s) (rw c.in-Paired.is at c.in_ok-next.ensures)
+
+pub walk-walk_premises-requires : goal.walk-walk_premises-requires
+walk-walk_premises-requires t c =
+    let h = c.requires in
+    let m = rw c.in-Reduce.is at c.in_ok-next.ensures in
+    (omega (arith, c.decreases), (h.0, h.1, m.1, omega (arith, c.if-d-at-lt2.false)))
 
 pub walk-returns-in-Reduce : goal.walk-returns-in-Reduce
 walk-returns-in-Reduce t c =
     let a = c.args in
-    let w = c.walk_premises-t in
-    walk_reduced a.d.now a.at (omega (arith, c.if-d-at-lt2.false)) (sequent_of a.nodes.now a.items.now a.s) _ c.in-Reduce.ensures.0 w.result.walked w.ensures.walks
+    let w = c.walk_premises in
+    let m = rw c.in-Reduce.is at c.in_ok-next.ensures in
+    walk_reduced a.d.now a.at (omega (arith, c.if-d-at-lt2.false)) (sequent_of a.t.nodes.now a.t.items.now a.s) _ m.0 w.result.walked w.ensures.walks
 
 -- ---- a premise, made and walked
 
 pub walk_premise-premise-made-requires : goal.walk_premise-premise-made-requires
 walk_premise-premise-made-requires t c =
     let a = c.args in
-    let w = premise_asks a.nodes.now a.items.now a.s a.r a.p c.requires.0 in
-    (w.0, w.1, w.2, refl, w.3)
+    premise_asks a.t.nodes.now a.t.items.now a.s a.r a.p c.requires.0
 
-pub walk_premise-walk-walked-requires : goal.walk_premise-walk-walked-requires
-walk_premise-walk-walked-requires t c =
+pub walk_premise-walk-requires : goal.walk_premise-walk-requires
+walk_premise-walk-requires t c =
     let a = c.args in
     let h = c.requires in
     let m = c.premise-made in
-    let e = made_is a.nodes.now a.items.now a.s a.r a.p h.0 _ m.new.new m.result m.ensures in (
+    let e = made_is a.t.nodes.now a.t.items.now a.s a.r a.p h.0 _ m.new.new m.result m.ensures in (
       omega (arith, c.decreases, ap connectives e, h.0.fewer),
-      (made_good a.nodes.now a.items.now a.s a.r a.p h.0 _ m.new.new m.result m.ensures, subst Roomy (sym e) h.1, h.2),
+      (made_good a.t.nodes.now a.t.items.now a.s a.r a.p h.0 _ m.new.new m.result m.ensures, subst Roomy (sym e) h.1, h.2),
     )
 
 pub walk_premise-returns : goal.walk_premise-returns
@@ -54,9 +61,9 @@ walk_premise-returns t c =
     let a = c.args in
     let h = c.requires in
     let m = c.premise-made in
-    let w = c.walk-walked in (
-      subst (λ (S : Sequent). Walks a.d.now (S ∷ []) a.at w.result) (made_is a.nodes.now a.items.now a.s a.r a.p h.0 _ m.new.new m.result m.ensures) w.ensures,
-      made_stores a.nodes.now a.items.now a.s a.r a.p h.0 _ m.new.new m.result m.ensures,
+    let w = c.walk in (
+      subst (λ (S : Sequent). Walks a.d.now (S ∷ []) a.at w.result) (made_is a.t.nodes.now a.t.items.now a.s a.r a.p h.0 _ m.new.new m.result m.ensures) w.ensures,
+      made_stores a.t.nodes.now a.t.items.now a.s a.r a.p h.0 _ m.new.new m.result m.ensures,
     )
 
 -- ---- the loop over the premises
@@ -65,26 +72,24 @@ pub walk_premises-rule-rule-requires : goal.walk_premises-rule-rule-requires
 walk_premises-rule-rule-requires t c =
     let a = c.args in
     let h = c.requires in
-    ((compound_at a.nodes.now a.r.side a.r.at (view a.s a.items.now)).connective, sym (command_made a.nodes.now a.items.now a.s h.0 a.r h.2))
+    ((compound_at a.t.nodes.now a.r.side a.r.at (view a.s a.t.items.now)).connective, sym (command_made a.t.nodes.now a.t.items.now a.s h.0 a.r h.2))
 
-pub walk_premises-loop-j-init : goal.walk_premises-loop-j-init
-walk_premises-loop-j-init t c =
+pub walk_premises-loop-p-init : goal.walk_premises-loop-p-init
+walk_premises-loop-p-init t c =
+    let a = c.args in
+    ahead_starts a.d.now (premise_by a.t.nodes.now a.t.items.now a.s a.r) c.rule-rule.result.now a.at c.requires.3
+
+pub walk_premises-walk_premise-tally-requires : goal.walk_premises-walk_premise-tally-requires
+walk_premises-walk_premise-tally-requires t c =
     let a = c.args in
     let h = c.requires in
-    subst (λ (u : Rule). Ahead a.d.now (premise_by a.nodes.now a.items.now a.s a.r) (rule_for a.r) a.at 0 a.at 0 u.first) (sym c.rule-rule.ensures)
-    (ahead_starts a.d.now (premise_by a.nodes.now a.items.now a.s a.r) (rule_for a.r) (few a.nodes.now a.items.now a.s h.0 a.r h.2) a.at h.3)
-
-pub walk_premises-walk_premise-t-requires : goal.walk_premises-walk_premise-t-requires
-walk_premises-walk_premise-t-requires t c =
-    let a = c.args in
-    let h = c.requires in
-    let l = c.loop-j in
-    let n : l.j < (rule_for a.r).premises = subst (λ (u : Rule). l.j < u.premises) c.rule-rule.ensures c.loop-j-test.true in (
+    let l = c.loop-p in
+    let u = c.rule-rule in (
       omega (arith, c.decreases),
       (
-        makes_next a.nodes.now a.items.now a.s h.0 a.r h.2 l.j l.p l.invariant.sum.next n,
-        roomy_next a.nodes.now a.items.now a.s h.0 h.1 a.r h.2 l.j l.p l.invariant.sum.next n,
-        omega arith,
+        makes_next a.t.nodes.now a.t.items.now a.s h.0 a.r h.2 u.result.now u.ensures l.p-index c.loop-p-test.true,
+        roomy_next a.t.nodes.now a.t.items.now a.s h.0 h.1 a.r h.2 u.result.now u.ensures l.p-index c.loop-p-test.true,
+        omega (arith, l.invariant.inside),
       ),
     )
 
@@ -92,39 +97,39 @@ pub walk_premises-overflow_add-stores : goal.walk_premises-overflow_add-stores
 walk_premises-overflow_add-stores t c =
     let a = c.args in
     let h = c.requires in
-    let l = c.loop-j in
-    let n : l.j < (rule_for a.r).premises = subst (λ (u : Rule). l.j < u.premises) c.rule-rule.ensures c.loop-j-test.true in
-    let m = makes_next a.nodes.now a.items.now a.s h.0 a.r h.2 l.j l.p l.invariant.sum.next n in
-    omega (arith, c.walk_premise-t.ensures.1, m.small, n, (few a.nodes.now a.items.now a.s h.0 a.r h.2).two, l.invariant.sum.small)
+    let l = c.loop-p in
+    let u = c.rule-rule in
+    let m = makes_next a.t.nodes.now a.t.items.now a.s h.0 a.r h.2 u.result.now u.ensures l.p-index c.loop-p-test.true in
+    omega (arith, c.walk_premise-tally.ensures.1, m.small, c.loop-p-test.true, few a.t.nodes.now a.t.items.now a.s h.0 a.r h.2 u.result.now u.ensures, l.invariant.sum.small)
 
-pub walk_premises-returns-in-Stopped : goal.walk_premises-returns-in-Stopped
-walk_premises-returns-in-Stopped t c =
+pub walk_premises-returns-in-Err : goal.walk_premises-returns-in-Err
+walk_premises-returns-in-Err t c =
     let a = c.args in
     let h = c.requires in
-    let l = c.loop-j in
-    let u = c.walk_premise-t in
-    let n : l.j < (rule_for a.r).premises = subst (λ (u : Rule). l.j < u.premises) c.rule-rule.ensures c.loop-j-test.true in
-    let m = makes_next a.nodes.now a.items.now a.s h.0 a.r h.2 l.j l.p l.invariant.sum.next n in
-    rw (← premises_made a.nodes.now a.items.now a.s h.0 a.r h.2)
-    (ahead_stops a.d.now (premise_by a.nodes.now a.items.now a.s a.r) (rule_for a.r) (few a.nodes.now a.items.now a.s h.0 a.r h.2) a.at l.j l.end l.stores l.p l.invariant n
-    c.in-Stopped.f u.result.stores (rw c.in-Stopped.is at u.ensures.0) u.ensures.1 m.small)
+    let l = c.loop-p in
+    let u = c.rule-rule in
+    let w = c.walk_premise-tally in
+    let m = makes_next a.t.nodes.now a.t.items.now a.s h.0 a.r h.2 u.result.now u.ensures l.p-index c.loop-p-test.true in
+    rw (← premises_made a.t.nodes.now a.t.items.now a.s h.0 a.r h.2 u.result.now u.ensures)
+    (ahead_stops a.d.now (premise_by a.t.nodes.now a.t.items.now a.s a.r) u.result.now a.at l.p-index l.end l.stores l.invariant c.loop-p-test.true
+    c.in-Err.f w.result.stores (rw c.in-Err.is at w.ensures.0) w.ensures.1 m.small)
 
-pub walk_premises-loop-j-preserved : goal.walk_premises-loop-j-preserved
-walk_premises-loop-j-preserved t c =
+pub walk_premises-loop-p-preserved : goal.walk_premises-loop-p-preserved
+walk_premises-loop-p-preserved t c =
     let a = c.args in
     let h = c.requires in
-    let l = c.loop-j in
-    let u = c.walk_premise-t in
-    let n : l.j < (rule_for a.r).premises = subst (λ (u : Rule). l.j < u.premises) c.rule-rule.ensures c.loop-j-test.true in
-    let m = makes_next a.nodes.now a.items.now a.s h.0 a.r h.2 l.j l.p l.invariant.sum.next n in
-    subst (λ (v : Rule). Ahead a.d.now (premise_by a.nodes.now a.items.now a.s a.r) (rule_for a.r) a.at (l.j + 1) c.in-To.e (l.stores + u.result.stores) v.second) (sym c.rule-rule.ensures)
-    (ahead_goes a.d.now (premise_by a.nodes.now a.items.now a.s a.r) (rule_for a.r) (few a.nodes.now a.items.now a.s h.0 a.r h.2) a.at l.j l.end l.stores l.p l.invariant n
-    c.in-To.e u.result.stores (rw c.in-To.is at u.ensures.0) u.ensures.1 m.small)
+    let l = c.loop-p in
+    let u = c.rule-rule in
+    let w = c.walk_premise-tally in
+    let m = makes_next a.t.nodes.now a.t.items.now a.s h.0 a.r h.2 u.result.now u.ensures l.p-index c.loop-p-test.true in
+    ahead_goes a.d.now (premise_by a.t.nodes.now a.t.items.now a.s a.r) u.result.now a.at l.p-index l.end l.stores l.invariant c.loop-p-test.true
+    c.in-Ok.e w.result.stores (rw c.in-Ok.is at w.ensures.0) w.ensures.1 m.small
 
 pub walk_premises-returns : goal.walk_premises-returns
 walk_premises-returns t c =
     let a = c.args in
     let h = c.requires in
-    let l = c.loop-j in
-    rw (← premises_made a.nodes.now a.items.now a.s h.0 a.r h.2)
-    (ahead_ends a.d.now (premise_by a.nodes.now a.items.now a.s a.r) (rule_for a.r) (few a.nodes.now a.items.now a.s h.0 a.r h.2) a.at l.j l.end l.stores l.p l.invariant (subst (λ (u : Rule). u.premises ≤ l.j) c.rule-rule.ensures c.loop-j-test.false))
+    let l = c.loop-p in
+    let u = c.rule-rule in
+    rw (← premises_made a.t.nodes.now a.t.items.now a.s h.0 a.r h.2 u.result.now u.ensures)
+    (ahead_ends a.d.now (premise_by a.t.nodes.now a.t.items.now a.s a.r) u.result.now a.at l.p-index l.end l.stores l.invariant c.loop-p-test.false)

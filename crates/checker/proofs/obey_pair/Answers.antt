@@ -4,7 +4,7 @@ use Rattle.checker.proofs.Walking.{byte_at}
 use Rattle.checker.proofs.obey_pair.Goals as goal
 
 pub returns-then-d-at-lt3 : goal.returns-then-d-at-lt3
-returns-then-d-at-lt3 c = λ T good. let a = c.args in rw (past a.d.now (a.at + 2) (omega (arith, c.if-d-at-lt3.true))) (refl, refl)
+returns-then-d-at-lt3 c = let a = c.args in rw (past a.d.now (a.at + 2) (omega (arith, c.if-d-at-lt3.true))) (refl, refl)
 
 pub returns : goal.returns
-returns c = λ T good. let a = c.args in rw (byte_at a.d.now (a.at + 2) (omega (arith, c.if-d-at-lt3.false))) (c.pairs.ensures T good)
+returns c = let a = c.args in rw (byte_at a.d.now (a.at + 2) (omega (arith, c.if-d-at-lt3.false))) c.pairs.ensures

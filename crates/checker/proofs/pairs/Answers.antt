@@ -9,40 +9,40 @@ use Rattle.checker.proofs.pairs.Goals as goal
 pub returns-then-s-i : goal.returns-then-s-i
 returns-then-s-i c =
     let a = c.args in
-    λ T good. no_left T a.items.now a.s good a.left a.right a.at (omega (arith, c.if-s-i.true, c.wide-i.ensures))
+    no_left a.t.nodes.now a.t.items.now a.s c.requires a.left a.right a.at (omega (arith, c.if-s-i.true, c.from-i.ensures))
 
 pub returns-then-s-j : goal.returns-then-s-j
 returns-then-s-j c =
     let a = c.args in
-    λ T good. no_right T a.items.now a.s good a.left a.right a.at (omega (arith, c.if-s-i.false, c.wide-i.ensures)) (omega (arith, c.if-s-j.true, c.wide-j.ensures))
+    no_right a.t.nodes.now a.t.items.now a.s c.requires a.left a.right a.at (omega (arith, c.if-s-i.false, c.from-i.ensures)) (omega (arith, c.if-s-j.true, c.from-j.ensures))
 
-pub returns-then-items-i-lt-LETTERS : goal.returns-then-items-i-lt-LETTERS
-returns-then-items-i-lt-LETTERS c =
+pub returns-then-t-i-lt-LETTERS : goal.returns-then-t-i-lt-LETTERS
+returns-then-t-i-lt-LETTERS c =
     let a = c.args in
-    let l : a.left < a.s.lefts = omega (arith, c.if-s-i.false, c.wide-i.ensures) in
-    let r : a.right < a.s.rights = omega (arith, c.if-s-j.false, c.wide-j.ensures) in
-    let n : get_or a.items.now c.wide-i.result 0 ≡ name_at Left a.left (view a.s a.items.now)
-    = rw c.wide-i.ensures (slot_name a.s a.items.now c.requires.1 c.requires.0 Left a.left l) in
-    λ T good. letter_paired T a.items.now a.s good a.left a.right a.at l r (omega (arith, c.if-items-i-lt-LETTERS.true, n))
+    let l : a.left < a.s.lefts = omega (arith, c.if-s-i.false, c.from-i.ensures) in
+    let r : a.right < a.s.rights = omega (arith, c.if-s-j.false, c.from-j.ensures) in
+    let n : get_or a.t.items.now c.from-i.result 0 ≡ name_at Left a.left (view a.s a.t.items.now)
+    = rw c.from-i.ensures (slot_name a.s a.t.items.now c.requires.places c.requires.room Left a.left l) in
+    letter_paired a.t.nodes.now a.t.items.now a.s c.requires a.left a.right a.at l r (omega (arith, c.if-t-i-lt-LETTERS.true, n))
 
-pub returns-then-items-i : goal.returns-then-items-i
-returns-then-items-i c =
+pub returns-then-t-i : goal.returns-then-t-i
+returns-then-t-i c =
     let a = c.args in
-    let l : a.left < a.s.lefts = omega (arith, c.if-s-i.false, c.wide-i.ensures) in
-    let r : a.right < a.s.rights = omega (arith, c.if-s-j.false, c.wide-j.ensures) in
-    let n : get_or a.items.now c.wide-i.result 0 ≡ name_at Left a.left (view a.s a.items.now)
-    = rw c.wide-i.ensures (slot_name a.s a.items.now c.requires.1 c.requires.0 Left a.left l) in
-    let m : get_or a.items.now (a.s.lefts + c.wide-j.result) 0 ≡ name_at Right a.right (view a.s a.items.now)
-    = rw c.wide-j.ensures (slot_name a.s a.items.now c.requires.1 c.requires.0 Right a.right r) in
-    λ T good. names_differ T a.items.now a.s good a.left a.right a.at l r (λ d. c.if-items-i.true (n ∙ d ∙ sym m))
+    let l : a.left < a.s.lefts = omega (arith, c.if-s-i.false, c.from-i.ensures) in
+    let r : a.right < a.s.rights = omega (arith, c.if-s-j.false, c.from-j.ensures) in
+    let n : get_or a.t.items.now c.from-i.result 0 ≡ name_at Left a.left (view a.s a.t.items.now)
+    = rw c.from-i.ensures (slot_name a.s a.t.items.now c.requires.places c.requires.room Left a.left l) in
+    let m : get_or a.t.items.now (a.s.lefts + c.from-j.result) 0 ≡ name_at Right a.right (view a.s a.t.items.now)
+    = rw c.from-j.ensures (slot_name a.s a.t.items.now c.requires.places c.requires.room Right a.right r) in
+    names_differ a.t.nodes.now a.t.items.now a.s c.requires a.left a.right a.at l r (λ d. c.if-t-i.true (n ∙ d ∙ sym m))
 
 pub returns : goal.returns
 returns c =
     let a = c.args in
-    let l : a.left < a.s.lefts = omega (arith, c.if-s-i.false, c.wide-i.ensures) in
-    let r : a.right < a.s.rights = omega (arith, c.if-s-j.false, c.wide-j.ensures) in
-    let n : get_or a.items.now c.wide-i.result 0 ≡ name_at Left a.left (view a.s a.items.now)
-    = rw c.wide-i.ensures (slot_name a.s a.items.now c.requires.1 c.requires.0 Left a.left l) in
-    let m : get_or a.items.now (a.s.lefts + c.wide-j.result) 0 ≡ name_at Right a.right (view a.s a.items.now)
-    = rw c.wide-j.ensures (slot_name a.s a.items.now c.requires.1 c.requires.0 Right a.right r) in
-    λ T good. equal_paired T a.items.now a.s good a.left a.right a.at l r (omega (arith, c.if-items-i-lt-LETTERS.false, n)) (sym n ∙ c.if-items-i.false ∙ m)
+    let l : a.left < a.s.lefts = omega (arith, c.if-s-i.false, c.from-i.ensures) in
+    let r : a.right < a.s.rights = omega (arith, c.if-s-j.false, c.from-j.ensures) in
+    let n : get_or a.t.items.now c.from-i.result 0 ≡ name_at Left a.left (view a.s a.t.items.now)
+    = rw c.from-i.ensures (slot_name a.s a.t.items.now c.requires.places c.requires.room Left a.left l) in
+    let m : get_or a.t.items.now (a.s.lefts + c.from-j.result) 0 ≡ name_at Right a.right (view a.s a.t.items.now)
+    = rw c.from-j.ensures (slot_name a.s a.t.items.now c.requires.places c.requires.room Right a.right r) in
+    equal_paired a.t.nodes.now a.t.items.now a.s c.requires a.left a.right a.at l r (omega (arith, c.if-t-i-lt-LETTERS.false, n)) (sym n ∙ c.if-t-i.false ∙ m)

@@ -9,11 +9,11 @@ use Rattle.names.proofs.root.Goals as goal
 pub overflow_add-between : goal.overflow_add-between
 overflow_add-between c =
     let l = c.load-left in
-    omega (arith, right_starts (question c.args.q.now) l.result.end l.ensures.2, side_inside c.args.q.now c.requires.0 Right)
+    omega (arith, right_starts (question c.args.q.bytes.now) l.result.end l.ensures.2, side_inside c.args.q.bytes.now c.args.q.accepted Right)
 
 pub returns : goal.returns
 returns c =
-    let q = c.args.q.now in
+    let q = c.args.q.bytes.now in
     let l = c.load-left in
     let r = c.load-right in
-    all_loaded (question q) (accepted_question q c.requires.0).0 l.new.nodes l.new.items l.result l.ensures.0 r.new.nodes r.new.items r.result r.ensures.0 r.ensures.1
+    all_loaded (question q) (accepted_question q c.args.q.accepted).0 l.new.nodes l.new.items l.result l.ensures.0 r.new.nodes r.new.items r.result r.ensures.0 r.ensures.1

@@ -1,21 +1,30 @@
-use Rattle.std.proofs.Common.{sym, arith}
-use Rattle.spelling.proofs.Order.{before_it, there_it, behind_it}
+use Rattle.std.proofs.Common.{rules, tests, arith, ◌≡◌, ◌≤◌, [], map, length, true, false, sym, ◌∙◌}
+use lib.ListN.{length-map}
+use Rattle.std.proofs.lemmas.Iterator.{IsFirst-from_position, YieldsList-from_slice}
+use Rattle.spelling.proofs.Order.{At_most, spot_found, spot_there, spot_before}
 use Rattle.spelling.proofs.spot_of.Goals as goal
+use Rattle.spelling.proofs.spot_of.Goals.{else-i-n-via-then-i-n+else-eq, else-i-n-via-else-i-n}
 
-pub returns-in-Less : goal.returns-in-Less
-returns-in-Less c =
-    let a = c.args in
-    let l = c.loop-i in
-    (before_it a.q.now a.items.now a.n c.requires.0 a.p l.i l.invariant.1 (omega arith) (sym c.in-Less.ensures), l.invariant.0)
+pub returns-then-eq : goal.returns-then-eq
+returns-then-eq c =
+    let ls = c.args.items.now in
+    let x = c.args.x in
+    let i = c.unwrap_or-i.result in
+    let f = IsFirst-from_position _ _ c.position.result (λ f. At_most ls x i f ≡ true) (λ f. At_most ls x i f ≡ false) c.position.ensures.ran
+    (YieldsList-from_slice ls cc) (λ y q k. search (rules, tests)) (λ y q k. search (rules, tests)) in
+    let s = spot_found ls x i c.position.result c.unwrap_or-i.ensures f in
+    spot_there ls x i s _ c.if-i-n.true (sym c.eq.ensures ∙ c.if-eq.true)
 
-pub returns-in-Equal : goal.returns-in-Equal
-returns-in-Equal c =
-    let a = c.args in
-    let l = c.loop-i in
-    (there_it a.q.now a.items.now a.n c.requires.0 a.p l.i l.invariant.1 (omega arith) (sym c.in-Equal.ensures), tt)
-
-pub loop-i-preserved : goal.loop-i-preserved
-loop-i-preserved c =
-    let a = c.args in
-    let l = c.loop-i in
-    (omega arith, behind_it a.q.now a.items.now a.n c.requires.0 a.p l.i l.invariant.1 (omega arith) (sym c.in-Greater.ensures))
+pub returns-else-i-n : goal.returns-else-i-n
+returns-else-i-n c =
+    let ls = c.args.items.now in
+    let x = c.args.x in
+    let i = c.unwrap_or-i.result in
+    let f = IsFirst-from_position _ _ c.position.result (λ f. At_most ls x i f ≡ true) (λ f. At_most ls x i f ≡ false) c.position.ensures.ran
+    (YieldsList-from_slice ls cc) (λ y q k. search (rules, tests)) (λ y q k. search (rules, tests)) in
+    let s = spot_found ls x i c.position.result c.unwrap_or-i.ensures f in
+    let within : i ≤ length (map (λ f. f.now) ls) = simp length-map s.within in
+    elim c.else-i-n.branch [
+      | else-i-n-via-then-i-n+else-eq w ↦ (within, spot_before ls x i s _ (λ h. sym w.eq.ensures ∙ w.if-eq.false))
+      | else-i-n-via-else-i-n w ↦ (within, spot_before ls x i s (record { ref_ptr = (0, 0); now = [] }) (λ h. absurd (omega (arith, w.if-i-n.false))))
+    ]

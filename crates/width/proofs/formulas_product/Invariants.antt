@@ -1,13 +1,10 @@
 -- The loop's invariant: the product so far, with that of the formulas ahead, is the whole one, and it is at most 2 to the power of
--- the connectives so far. The measure is the formulas due.
-use Rattle.std.proofs.Common.{take, drop}
+-- the connectives so far.
+use Rattle.std.proofs.Common.{◌-◌, take, drop}
 use Rattle.calculus.specs.Bytes.{formulas}
 use Rattle.width.specs.Walks.{product_of}
 use Rattle.width.proofs.Products.{Ahead}
 use Rattle.width.proofs.formulas_product.Given as goal
 
-abbrev pub invariant-loop-due : goal.invariant-loop-due
-invariant-loop-due l = Ahead l.q l.side (product_of l.side l.at (take l.n (formulas (drop l.at l.q)))) l.width l.connectives l.end l.due
-
-abbrev pub decreases-loop-due : goal.decreases-loop-due
-decreases-loop-due l = l.due
+abbrev pub invariant-loop : goal.invariant-loop
+invariant-loop l = Ahead l.q l.side (product_of l.side l.at (take l.n (formulas (drop l.at l.q)))) l.all.value l.all.connectives l.all.end (l.n - l.counter)

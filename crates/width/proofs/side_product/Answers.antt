@@ -6,5 +6,5 @@ use Rattle.width.proofs.side_product.Goals as goal
 pub formulas_product-requires-clause-q_bound : goal.formulas_product-requires-clause-q_bound
 formulas_product-requires-clause-q_bound c =
     let a = c.args in
-    let r = side_read a.q.now c.requires.0 a.side a.start c.side_count-n.result c.requires.1 c.side_count-n.ensures in
-    rw r.all (side_counted a.q.now c.requires.0 a.side)
+    let r = side_read a.q.bytes.now a.q.accepted a.side a.start c.count.result c.requires c.count.ensures in
+    rw r.all (side_counted a.q.bytes.now a.q.accepted a.side)

@@ -1,2 +1,0 @@
--- The law behind a function's proof. Assumes nothing.
-pub mod Fits
