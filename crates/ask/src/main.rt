@@ -12,6 +12,7 @@ ghost use Rattle.ask.specs.Output.{derivation_line, verdict_text, ask_text};
 
 use calculus::{Kind, Verdict};
 use print::{Hexadecimal, Refused};
+use question::Question;
 use std::alloc::{AllocError, Global};
 use std::io;
 use std::io::Read;
@@ -27,32 +28,30 @@ const BUDGET: u64 = 1000000;
 const BUFFER: usize = 4096;
 
 // A theorem's second line: its derivation in hexadecimal, or `no space`.
-fn derivation_line(alloc: Global, q: &[u8]) -> Result<String, AllocError>
-    requires { (reading q.now ≡ accepted) × ((verdict defined.BUDGET (question q.now)).kind ≡ Kind.Theorem) }
-    ensures { IfOk result (λ s. string_bytes s ≡ derivation_line (derivation (question q.now))) }
+fn derivation_line(alloc: Global, q: Question<'_>) -> Result<String, AllocError>
+    requires { (verdict defined.BUDGET (question q.bytes.now)).kind ≡ Kind.Theorem }
+    ensures { IfOk result (λ s. string_bytes s ≡ derivation_line (derivation (question q.entry.bytes.now))) }
 {
     let mut buffer = [0u8; BUFFER];
-    let answer = writer::derive(q, BUDGET, &mut buffer);
-    match answer {
-        writer::Writing::Written(n, _) => {
-            let end = n as usize;
+    match writer::derive(q.bytes, BUDGET, &mut buffer) {
+        Ok(written) => {
+            let end = written.length as usize;
             format!(in alloc; "{}\n", Hexadecimal(&buffer[..end]))
         }
-        _ => String::from_str(alloc, "no space\n"),
+        Err(_) => String::from_str(alloc, "no space\n"),
     }
 }
 
 // The text for an accepted question.
-fn verdict_text(alloc: Global, q: &[u8], v: Verdict, width: u64) -> Result<String, AllocError>
-    requires { (reading q.now ≡ accepted) × (v ≡ verdict defined.BUDGET (question q.now)) }
-    ensures { IfOk result (λ s. string_bytes s
-        ≡ verdict_text v.kind v.reductions v.closings width (derivation (question q.now))) }
+fn verdict_text(alloc: Global, q: Question<'_>) -> Result<String, AllocError>
+    ensures { IfOk result (λ s. string_bytes s ≡ ask_text q.entry.bytes.now) }
 {
     let Verdict {
         kind,
         reductions,
         closings,
-    } = v;
+    } = prover::verdict_of(q, BUDGET);
+    let width = width::width(q.bytes).unwrap().width;
     match kind {
         Kind::Theorem => {
             let second = derivation_line(alloc, q)?;
@@ -70,10 +69,9 @@ fn verdict_text(alloc: Global, q: &[u8], v: Verdict, width: u64) -> Result<Strin
 fn text(alloc: Global, q: &[u8]) -> Result<String, AllocError>
     ensures { IfOk result (λ s. string_bytes s ≡ ask_text q.now) }
 {
-    let widths = width::width(q);
-    match widths {
-        width::Measure::Refused(r) => Refused(r).to_string(alloc),
-        width::Measure::Of(w, _) => verdict_text(alloc, q, prover::verdict_of(q, BUDGET), w),
+    match Question::read(q) {
+        Ok(question) => verdict_text(alloc, question),
+        Err(r) => Refused(r).to_string(alloc),
     }
 }
 
