@@ -42,16 +42,22 @@ fn derivation_line(alloc: Global, q: Question<'_>) -> Result<String, AllocError>
     }
 }
 
-// The text for an accepted question.
-fn verdict_text(alloc: Global, q: Question<'_>) -> Result<String, AllocError>
-    ensures { IfOk result (λ s. string_bytes s ≡ ask_text q.entry.bytes.now) }
+// The text for an accepted question, by its verdict and its width.
+fn verdict_text(
+    alloc: Global,
+    q: Question<'_>,
+    v: Verdict,
+    width: u64,
+) -> Result<String, AllocError>
+    requires { v ≡ verdict defined.BUDGET (question q.bytes.now) }
+    ensures { IfOk result (λ s. string_bytes s
+        ≡ verdict_text v.kind v.reductions v.closings width (derivation (question q.entry.bytes.now))) }
 {
     let Verdict {
         kind,
         reductions,
         closings,
-    } = prover::verdict_of(q, BUDGET);
-    let width = width::width(q.bytes).unwrap().width;
+    } = v;
     match kind {
         Kind::Theorem => {
             let second = derivation_line(alloc, q)?;
@@ -70,7 +76,11 @@ fn text(alloc: Global, q: &[u8]) -> Result<String, AllocError>
     ensures { IfOk result (λ s. string_bytes s ≡ ask_text q.now) }
 {
     match Question::read(q) {
-        Ok(question) => verdict_text(alloc, question),
+        Ok(question) => {
+            let verdict = prover::verdict_of(question, BUDGET);
+            let width = width::width(q).unwrap().width;
+            verdict_text(alloc, question, verdict, width)
+        }
         Err(r) => Refused(r).to_string(alloc),
     }
 }
