@@ -1,11 +1,10 @@
 // Decides the question on standard input, and prints its verdict and a theorem's derivation.
 #![tactic(auto)]
 
-ghost use Rattle.std.specs.Prelude.{◌≡◌, ◌+◌, ◌*◌, ◌<◌, ◌≤◌, length, take, IfOk, string_bytes};
+ghost use Rattle.std.specs.Prelude.{◌≡◌, ◌<◌, ◌≤◌, length, IfOk, string_bytes};
 ghost use Rattle.std.specs.Io.KnownBytes.{Consumes, IsAtEnd};
 ghost use Rattle.calculus.specs.Bytes.{question};
 ghost use Rattle.calculus.specs.Derivation.{derivation};
-ghost use Rattle.calculus.specs.Reading.{reading, accepted};
 ghost use Rattle.calculus.specs.Tree.{verdict};
 ghost use Rattle.ask.specs.Output as defined;
 ghost use Rattle.ask.specs.Output.{derivation_line, verdict_text, ask_text};
@@ -35,8 +34,8 @@ fn derivation_line(alloc: Global, q: Question<'_>) -> Result<String, AllocError>
     let mut buffer = [0u8; BUFFER];
     match writer::derive(q.bytes, BUDGET, &mut buffer) {
         Ok(written) => {
-            let end = written.length as usize;
-            format!(in alloc; "{}\n", Hexadecimal(&buffer[..end]))
+            let bytes = &buffer[..written.length as usize];
+            format!(in alloc; "{}\n", Hexadecimal(bytes))
         }
         Err(_) => String::from_str(alloc, "no space\n"),
     }
