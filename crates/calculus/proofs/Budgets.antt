@@ -61,7 +61,7 @@ pub theorem_whole : (b : ℕ) (S : Sequent) → (outcome b S).kind ≡ Theorem �
 theorem_whole b S e = elim (dec_lt b (reductions (tree S).events)) [ yes h ↦ absurd (spent_no (sym (spend_spent b (tree S).events (tree S).end h).0 ∙ e)) | no h ↦ omega arith ]
   where
     spent_no : Spent ≡ Theorem → ⊥
-    spent_no q = let z : ◌≡◌ {A = ℕ} 0 1 = cc in omega arith
+    spent_no q = cc
 
 -- it then reports its budget as reductions, and the closings before the tree's next reduction
 pub spent_verdict : (b : ℕ) (S : Sequent) → b < reductions (tree S).events

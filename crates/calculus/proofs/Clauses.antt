@@ -6,7 +6,6 @@ use mathlib.Core.Bool.{Bool, true, false, not, ◌&&◌, ◌||◌, not-not, or-f
 use mathlib.Core.Option.{Option, none, some, none-ne-some}
 use mathlib.Core.List.{List, [], ◌∷◌, ◌++◌}
 use Prim.Native.Nat.{ℕ, ◌+◌, ◌≤◌}
-use native.Mathlib.Omega.{arith}
 use lib.Dec.{eqb}
 use lib.ListN.{length}
 use Rattle.calculus.specs.declared.Side.TheVariants.{Left, Right}
@@ -95,7 +94,7 @@ Fits (x ∷ xs) [] = ⊥
 Fits (x ∷ xs) (c ∷ cs) = (clause_of x ≡ some c) × Single c × Fits xs cs
 
 not_outside : (n at : ℕ) (cs : List Clause) → outside n at ≡ clauses cs → ⊥
-not_outside n at cs e = let z : ◌≡◌ {A = ℕ} 0 1 = cc in omega arith
+not_outside n at cs e = cc
 
 profile_fits : (at : ℕ) (xs : List Formula) (cs : List Clause) → profile_from at xs ≡ clauses cs → Fits xs cs
 profile_fits at [] cs e = let h : [] ≡ cs = cc in rw (← h) tt
@@ -185,7 +184,7 @@ module _ (S : Sequent) (cs : List Clause) (e : profile S ≡ clauses cs) where
     where
       refuting : (ρ : ℕ) → (verdict b S).kind ≡ Refuted ρ → truth ρ S ≡ false
       refuting ρ h =
-          let t : (tree S).end ≡ Refuted ρ = verdict_end b S (Refuted ρ) h (λ d. let z : ◌≡◌ {A = ℕ} 0 1 = cc in omega arith) in
+          let t : (tree S).end ≡ Refuted ρ = verdict_end b S (Refuted ρ) h (λ d. cc) in
           rw t at (tree_fine S).verdict
 
       go : (d : Decision) → Correct S d → (k : Kind) → (verdict b S).kind ≡ k → Agrees d k
@@ -194,7 +193,7 @@ module _ (S : Sequent) (cs : List Clause) (e : profile S ≡ clauses cs) where
       go (theorem n) t Spent h = tt
       go (theorem n) t Full h = tt
       go (refuted σ n) t Theorem h =
-          true≢false (sym (theorem_true S (verdict_end b S Theorem h (λ d. let z : ◌≡◌ {A = ℕ} 0 1 = cc in omega arith)) σ) ∙ t.refutes)
+          true≢false (sym (theorem_true S (verdict_end b S Theorem h (λ d. cc)) σ) ∙ t.refutes)
       go (refuted σ n) t (Refuted ρ) h = t.below ρ (refuting ρ h)
       go (refuted σ n) t Spent h = tt
       go (refuted σ n) t Full h = tt

@@ -189,7 +189,7 @@ two_bytes b i bs P Ps Qs o d =
     then (o r.0 r.2) r.3 (ap (λ (l : List ℕ). b ∷ i ∷ l) r.4)
 
 not_faulty : {Q : Type 0} (n at : ℕ) → faulty n at ≡ passes → Q
-not_faulty n at e = let z : ◌≡◌ {A = ℕ} 0 1 = cc in absurd (omega arith)
+not_faulty n at e = absurd cc
 
 checked_derivations : (ds : List ℕ) (Ps : List Sequent) (at : ℕ) → check ds Ps at ≡ passes → Derivations Ps ds
 checked_derivations [] [] at e = none_left
@@ -265,9 +265,9 @@ follow_derives : (P : Sequent) (Qs : List Sequent) (es : List Event) (e : Kind) 
     → (u.end ≡ Theorem → Derivations Qs (written_all u.events))
     → (follow es e u).end ≡ Theorem → Derivations (P ∷ Qs) (written_all (follow es e u).events)
 follow_derives P Qs es Theorem u h k q = then (h refl) (k q) (written_all_append es u.events)
-follow_derives P Qs es (Refuted σ) u h k q = let z : ◌≡◌ {A = ℕ} 0 1 = cc in absurd (omega arith)
-follow_derives P Qs es Spent u h k q = let z : ◌≡◌ {A = ℕ} 0 1 = cc in absurd (omega arith)
-follow_derives P Qs es Full u h k q = let z : ◌≡◌ {A = ℕ} 0 1 = cc in absurd (omega arith)
+follow_derives P Qs es (Refuted σ) u h k q = absurd cc
+follow_derives P Qs es Spent u h k q = absurd cc
+follow_derives P Qs es Full u h k q = absurd cc
 
 chain_derives : (S : Sequent) → ((P : Sequent) → Smaller S P → Derives P (tree P)) → (Qs : List Sequent) → Each (Smaller S) Qs
     → (chain tree Qs).end ≡ Theorem → Derivations Qs (written_all (chain tree Qs).events)
@@ -277,8 +277,8 @@ chain_derives S h (P ∷ Qs) l = follow_derives P Qs (tree P).events (tree P).en
 grow_derives : (S : Sequent) (t : Step) → Right_step S t → ((P : Sequent) → Smaller S P → Derives P (tree P)) → Derives S (grow tree S t)
 grow_derives S (closed (lettered k)) p h q = by_letter k (record { lefts = p.0; rights = p.1 }) refl
 grow_derives S (closed (paired i j)) p h q = by_pair i j p refl
-grow_derives S (opened σ) p h q = let z : ◌≡◌ {A = ℕ} 0 1 = cc in absurd (omega arith)
-grow_derives S full p h q = let z : ◌≡◌ {A = ℕ} 0 1 = cc in absurd (omega arith)
+grow_derives S (opened σ) p h q = absurd cc
+grow_derives S full p h q = absurd cc
 grow_derives S (reduced s i x) p h q = by_rule s i x p (chain_derives S h (premises s i x S) (smaller s i x S p) q) refl
 
 -- "our derivation of a theorem passes the checker"

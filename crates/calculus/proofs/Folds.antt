@@ -49,6 +49,11 @@ pub fold_add : {X : Type 0} (f g : X → ℕ) (xs : List X) → fold SUM (λ x. 
 fold_add f g [] = refl
 fold_add f g (x ∷ xs) = omega (arith, fold_add f g xs)
 
+-- how many they are, as a sum
+pub ones : {X : Type 0} (xs : List X) → fold SUM (λ x. 1) xs ≡ length xs
+ones [] = refl
+ones (x ∷ xs) = omega (arith, ones xs)
+
 -- ---- Booleans
 
 pub or_elim : {Q : Type 0} (a b : Bool) → (a || b) ≡ true → (a ≡ true → Q) → (b ≡ true → Q) → Q

@@ -20,6 +20,7 @@ use Rattle.calculus.specs.Limits.{Limits, LIMITS, ROOM, TOO_LONG, CUT, WRONG_COM
 use Rattle.calculus.specs.Syntax.{Binary, NOT, two, Formula, letter, neg, join, Sequent, connectives, c, size}
 use Rattle.calculus.specs.Bytes.{Command, SIDE, LETTER, CONNECTIVE, code, command, encode, encode_all, encode_side, encode_sequent, bytes, bytes_all, question, LetteredUnder, WithinUnder, Within}
 use Rattle.calculus.specs.Reading.{Onward, refuse, onward, after, begin_under, advance, advance_under, accepted, refused, ended, go_on, read, read_under, reading, reading_under}
+use Rattle.calculus.proofs.Folds.{ones}
 use Rattle.calculus.proofs.Spelling.{command_code, command_byte, question_encode, longest}
 
 -- ---- what is within the limits is accepted
@@ -174,7 +175,7 @@ module _ (L : Limits) where
           }
 
   not_refused : {Q : Type 0} (n at : ℕ) → refused n at ≡ accepted → Q
-  not_refused n at e = let z : ◌≡◌ {A = ℕ} 0 1 = cc in absurd (omega arith)
+  not_refused n at e = absurd cc
 
   -- one byte, given what holds of the bytes after it
   module _ (b : ℕ) (bs : List ℕ) (at : ℕ) (ih : (e : Expected) (d : ℕ) → d ≤ L.connectives → read_under L bs e d (suc at) ≡ accepted → Rest e d bs) where
@@ -285,7 +286,7 @@ cut_here e d at n p h = inl (go e h)
     go (Count s) h = (cc, cc (add-zero at))
     go (Due s m) h = (cc, cc (add-zero at))
     go (Operand s m) h = (cc, cc (add-zero at))
-    go End h = let z : ◌≡◌ {A = ℕ} 0 1 = cc in absurd (omega arith)
+    go End h = absurd cc
 
 pub refused_place : (bs : List ℕ) (e : Expected) (d at n p : ℕ) → read bs e d at ≡ refused n p → Refusal bs e d at n p
 refused_place [] e d at n p h = cut_here e d at n p h
@@ -308,7 +309,3 @@ refused_place (b ∷ bs) e d at n p h = go (advance e d b) refl (λ e' d' h'. re
 
 pub within_room : (S : Sequent) → Within S → size S + c S ≤ ROOM
 within_room S w = omega (arith, w.lefts, w.rights, w.connectives, ones S.on_left, ones S.on_right)
-  where
-    ones : (xs : List Formula) → fold SUM (λ x. 1) xs ≡ length xs
-    ones [] = refl
-    ones (x ∷ xs) = omega (arith, ones xs)

@@ -46,8 +46,8 @@ follow_once es Full u h q = h q
 
 grow_once : (S : Sequent) (u : Step) → Right_step S u → ((P : Sequent) → Smaller S P → Closes_once P (letter_tree P)) → Closes_once S (grow letter_tree S u)
 grow_once S (closed w) p h q = le_refl 1
-grow_once S (opened σ) p h q = let z : ◌≡◌ {A = ℕ} 0 1 = cc in absurd (omega arith)
-grow_once S full p h q = let z : ◌≡◌ {A = ℕ} 0 1 = cc in absurd (omega arith)
+grow_once S (opened σ) p h q = absurd cc
+grow_once S full p h q = absurd cc
 grow_once S (reduced s i x) p h q = go (premises s i x S) (omega (arith, W_pos S, width_premises s i x S p)) (smaller s i x S p) q
   where
     go : (Ps : List Sequent) → 1 ≤ fold SUM W Ps → Each (Smaller S) Ps → (chain letter_tree Ps).end ≡ Theorem → 1 ≤ 0 + closings (chain letter_tree Ps).events
@@ -72,7 +72,7 @@ equal_less t = record { ends = refl; reduced_less = le_refl _; closed_less = le_
 follow_saves : (es fs : List Event) (e d : Kind) (t u : Tree) → Saves (record { events = es; end = e }) (record { events = fs; end = d }) → Saves t u
     → Saves (follow es e t) (follow fs d u)
 follow_saves es fs e Theorem t u h k f =
-    let p = h (λ q. let z : ◌≡◌ {A = ℕ} 0 1 = cc in omega arith) in
+    let p = h (λ q. cc) in
     let q = k f in
     rw p.ends (record {
       ends = q.ends;
@@ -120,13 +120,13 @@ once_reduced S e q =
     Reduced u = (grow letter_tree S u).end ≡ Theorem → 1 ≤ reductions (grow letter_tree S u).events
 
     either_way : (s : Side) (i : ℕ) (x : Compound) (t : Bool) → Reduced (choose t full (reduced s i x))
-    either_way s i x true d = let z : ◌≡◌ {A = ℕ} 0 1 = cc in absurd (omega arith)
+    either_way s i x true d = absurd cc
     either_way s i x false d = omega arith
 
     go : (a b : First) → Reduced (tests S none a b)
     go (here i x) b = either_way Left i x (fold ANY (λ P. ltb ROOM (size P)) (premises Left i x S))
     go missing (here i x) = either_way Right i x (fold ANY (λ P. ltb ROOM (size P)) (premises Right i x S))
-    go missing missing = λ d. let z : ◌≡◌ {A = ℕ} 0 1 = cc in absurd (omega arith)
+    go missing missing = λ d. absurd cc
 
 along : (t t' u u' : Tree) → t ≡ t' → u ≡ u' → Saves t' u' → Saves t u
 along t t' u u' p q h = rw (p, q) h

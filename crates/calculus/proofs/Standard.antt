@@ -3,7 +3,7 @@
 -- Assumes nothing.
 use mathlib.Core.Path.{◌≡◌, refl, sym, ap, ◌∙◌, fun_ext}
 use mathlib.Core.Logic.{◌↔◌}
-use mathlib.Core.Bool.{Bool, true, false, not, ◌||◌, or_assoc, or_comm, false≢true}
+use mathlib.Core.Bool.{Bool, true, false, not, ◌||◌, or_assoc, or_self, false≢true}
 use mathlib.Core.List.{List, [], ◌∷◌, ◌++◌, map}
 use Prim.Native.Nat.{ℕ, ◌+◌, ◌≤◌}
 use native.Mathlib.Omega.{arith}
@@ -14,7 +14,7 @@ use Rattle.calculus.specs.declared.Side.TheVariants.{Left, Right}
 use Rattle.std.specs.declared.cmp.Ordering.{Ordering}
 use Rattle.std.specs.declared.cmp.Ordering.TheVariants.{Less, Equal, Greater}
 use Rattle.std.specs.Ordering.{ordering_reverse}
-use Rattle.std.specs.Cmp.{tied_itself}
+use Rattle.std.specs.Cmp.{both_ways, tied_itself}
 use Rattle.std.proofs.lemmas.Cmp.{nat_list_cmp_total}
 use Rattle.std.proofs.lemmas.Map.Lookups.{exact_bytes}
 use Rattle.calculus.specs.Fold.{fold, ANY, SUM, Each}
@@ -26,7 +26,7 @@ use Rattle.calculus.specs.Truth.{says, truth, Valid}
 use Rattle.calculus.specs.States.{occurs, occurs_in, from, filter, letters_under, states_over, refuting_over}
 use Rattle.calculus.specs.Standard.{compare, place, insert, arranged, standard, spelling, stands, SameSets, AscendsByBytes}
 use Rattle.calculus.specs.Reply.{fill_out, list_out, list_under}
-use Rattle.calculus.proofs.Folds.{or_elim, not_so, each}
+use Rattle.calculus.proofs.Folds.{left_comm, ones, or_elim, not_so, each}
 use Rattle.calculus.proofs.Spelling.{same_eq, same_self, encode_injective, question_encode}
 use Rattle.calculus.proofs.Readings.{question_under, exactly_under}
 
@@ -67,10 +67,6 @@ each_insert Q spelt x (y ∷ ys) q h = go (compare (spelt x) (spelt y)) (each_in
     go Greater ih = (h.0, ih)
 
 -- whatever is asked of any of them
-or_again : (a b : Bool) → (a || b) ≡ (a || (a || b))
-or_again true b = refl
-or_again false b = refl
-
 any_insert : (g : Formula → Bool) (x : Formula) (ys : List Formula) → fold ANY g (insert encode x ys) ≡ (g x || fold ANY g ys)
 any_insert g x [] = refl
 any_insert g x (y ∷ ys) = go (compare (encode x) (encode y)) refl (any_insert g x ys)
@@ -78,8 +74,8 @@ any_insert g x (y ∷ ys) = go (compare (encode x) (encode y)) refl (any_insert 
     go : (c : Ordering) → compare (encode x) (encode y) ≡ c → fold ANY g (insert encode x ys) ≡ (g x || fold ANY g ys)
         → fold ANY g (place c x y ys (insert encode x ys)) ≡ (g x || (g y || fold ANY g ys))
     go Less e ih = refl
-    go Equal e ih = rw (encode_injective x y (compare_equal (encode x) (encode y) e)) (or_again (g y) (fold ANY g ys))
-    go Greater e ih = rw ih (sym (or_assoc (g y) (g x) (fold ANY g ys)) ∙ (rw (or_comm (g y) (g x)) (or_assoc (g x) (g y) (fold ANY g ys))))
+    go Equal e ih = rw (encode_injective x y (compare_equal (encode x) (encode y) e), ← or_assoc (g y) (g y) (fold ANY g ys), or_self (g y))
+    go Greater e ih = rw ih (left_comm ANY (g y) (g x) (fold ANY g ys))
 
 pub any_arranged : (g : Formula → Bool) (xs : List Formula) → fold ANY g (arranged xs) ≡ fold ANY g xs
 any_arranged g [] = refl
@@ -125,7 +121,7 @@ stands_each Q [] x h e = absurd (false≢true e)
 stands_each Q (y ∷ ys) x h e = or_elim (same x y) (stands x ys) e (λ a. rw (same_eq x y a) h.0) (λ a. stands_each Q ys x h.1 a)
 
 not_behind : (x : Formula) (ys : List Formula) → Each (λ y. compare (encode x) (encode y) ≡ Less) ys → stands x ys ≡ false
-not_behind x ys h = not_so (stands x ys) (λ e. let l = stands_each (λ y. compare (encode x) (encode y) ≡ Less) ys x h e in let z : ◌≡◌ {A = ℕ} 0 1 = cc (l, compare_self (encode x)) in omega arith)
+not_behind x ys h = not_so (stands x ys) (λ e. let l = stands_each (λ y. compare (encode x) (encode y) ≡ Less) ys x h e in cc (l, compare_self (encode x)))
 
 -- x, below all behind it, does not stand in a list of greater ones
 not_there : (x y : Formula) (ys : List Formula) → compare (encode x) (encode y) ≡ Less → Each (λ z. compare (encode y) (encode z) ≡ Less) ys → stands x (y ∷ ys) ≡ false
@@ -164,14 +160,12 @@ arranged_more xs x =
   where
     last : (z : Formula) (ys : List Formula) → stands z (ys ++ (x ∷ [])) ≡ (same z x || stands z ys)
     last z [] = refl
-    last z (y ∷ ys) = rw (last z ys) (sym (or_assoc (same z y) (same z x) (stands z ys)) ∙ (rw (or_comm (same z y) (same z x)) (or_assoc (same z x) (same z y) (stands z ys))))
+    last z (y ∷ ys) = rw (last z ys) (left_comm ANY (same z y) (same z x) (stands z ys))
 
 -- ---- both sides
 
 iff_equal : (a b : Bool) → (a ≡ true) ↔ (b ≡ true) → a ≡ b
-iff_equal true b h = sym (h.0 refl)
-iff_equal false true h = h.1 refl
-iff_equal false false h = refl
+iff_equal a b h = both_ways a b h.0 h.1
 
 equal_iff : (a b : Bool) → a ≡ b → (a ≡ true) ↔ (b ≡ true)
 equal_iff a b e = (λ h. sym e ∙ h, λ h. e ∙ h)
@@ -246,12 +240,8 @@ bytes_all_sum : (xs : List Formula) → bytes_all xs ≡ fold SUM bytes xs
 bytes_all_sum [] = refl
 bytes_all_sum (x ∷ xs) = omega (arith, bytes_all_sum xs, length-append (encode x) (encode_all xs))
 
-length_sum : (xs : List Formula) → length xs ≡ fold SUM (λ x. 1) xs
-length_sum [] = refl
-length_sum (x ∷ xs) = omega (arith, length_sum xs)
-
 fewer : (xs : List Formula) → length (arranged xs) ≤ length xs
-fewer xs = omega (arith, length_sum xs, length_sum (arranged xs), sum_arranged (λ x. 1) xs)
+fewer xs = omega (arith, ones xs, ones (arranged xs), sum_arranged (λ x. 1) xs)
 
 shorter : (xs : List Formula) → bytes_all (arranged xs) ≤ bytes_all xs
 shorter xs = omega (arith, bytes_all_sum xs, bytes_all_sum (arranged xs), sum_arranged bytes xs)

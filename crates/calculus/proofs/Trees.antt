@@ -152,8 +152,8 @@ pub partner_at : (x : Formula) (ys : List Formula) → Partner x ys (partner x y
 partner_at (letter k) ys = λ y e n q. no_whole y.connective y.f y.g e
   where
     no_whole : (j : Connective) (f g : Formula) → letter k ≡ compound j f g → ⊥
-    no_whole NOT f g e = let z : ◌≡◌ {A = ℕ} 0 1 = cc in omega arith
-    no_whole (two b) f g e = let z : ◌≡◌ {A = ℕ} 0 1 = cc in omega arith
+    no_whole NOT f g e = cc
+    no_whole (two b) f g e = cc
 partner_at (neg x) ys = go (equal_to (neg x) ys) (equal_at (neg x) ys)
   where
     go : (o : Option ℕ) → Equal_at (neg x) ys o → Partner (neg x) ys o

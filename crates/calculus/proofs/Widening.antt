@@ -66,7 +66,7 @@ module _ (L M : Limits) (wider : Wider L M) where
         lists = λ old. rw (a, e, ls);
         spells = λ old. rw (a, e);
         settles = rw (a, e);
-        state = λ b σ h. state_bits S w σ (verdict_end b S (Refuted σ) h (λ d. let z : ◌≡◌ {A = ℕ} 0 1 = cc in omega arith));
+        state = λ b σ h. state_bits S w σ (verdict_end b S (Refuted σ) h (λ d. cc));
         states = rw ls (each_filter (λ σ. σ < 2 ^ L.letters) (λ σ. not (truth σ S)) (states_over (letters_under L.letters S)) (states_below L.letters (letters_under L.letters S) small));
       }
     where

@@ -1,5 +1,5 @@
 -- Folds over a list in a commutative monoid: any, all, sum and product are its instances.
-use Rattle.std.specs.Prelude.{◌≡◌, refl, Bool, true, false, ◌&&◌, ◌||◌, List, [], ◌∷◌, ℕ, ◌+◌, ◌*◌}
+use Rattle.std.specs.Prelude.{◌≡◌, refl, Bool, true, false, ◌&&◌, ◌||◌, List, [], ◌∷◌, ℕ, ◌+◌, ◌*◌, cond}
 use Rattle.std.proofs.Math.Bool.{or_assoc, or_comm, and_assoc, and_comm}
 use Rattle.std.proofs.Math.Option.{Option, none, some}
 use Rattle.std.proofs.Common.{zero-add, add_assoc, add_comm, one-mul, mul_assoc, mul_comm}
@@ -34,8 +34,7 @@ Each Q (x ∷ xs) = Q x × Each Q xs
 
 -- if, then, else
 abbrev pub choose : {A : Type 0} → Bool → A → A → A
-choose true a b = a
-choose false a b = b
+choose = cond
 
 -- the first element that passes a test
 abbrev pub find : {X : Type 0} → (X → Bool) → List X → Option X

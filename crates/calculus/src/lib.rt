@@ -1,4 +1,4 @@
-// The types that the code and the definitions share, and a byte as a count or a place.
+// The types that the code and the definitions share.
 #![tactic(auto)]
 
 ghost use Rattle.std.specs.Prelude.{◌≡◌};
@@ -67,10 +67,4 @@ pub struct Verdict {
 pub struct Part {
     pub start: usize,
     pub count: usize,
-}
-
-pub fn wide(b: u8) -> usize
-    ensures { result ≡ b }
-{
-    b as usize
 }

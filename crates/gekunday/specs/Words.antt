@@ -18,12 +18,9 @@ filled zero vs = []
 filled (suc n) [] = 0 ∷ filled n []
 filled (suc n) (v ∷ vs) = v ∷ filled n vs
 
-abbrev pub listed : Words → List ℕ
-listed w = w.first ∷ w.second ∷ w.third ∷ []
-
 -- a reply's number and values
 abbrev pub Holds : Reply → Words → Type 0
-Holds r w = (w.number ≡ r.number) × (listed w ≡ filled 3 r.values)
+Holds r w = (w.number ≡ r.number) × (w.values ≡ filled 4 r.values)
 
 -- ---- deciding: whether it is refuted, the state, reductions, closings
 
@@ -47,6 +44,10 @@ state_word Full = 0
 
 abbrev pub verdict_words : Verdict → List ℕ
 verdict_words v = refuted_word v.kind ∷ state_word v.kind ∷ v.reductions ∷ v.closings ∷ []
+
+-- a verdict's number and words
+abbrev pub Tells : Verdict → Words → Type 0
+Tells v w = (w.number ≡ kind_number v.kind) × (w.values ≡ verdict_words v)
 
 abbrev pub read_words : Reading → Verdict → List ℕ
 read_words accepted v = verdict_words v

@@ -18,8 +18,7 @@ use Rattle.calculus.proofs.Bounds.{theorem_true, theorem_exactly, refuted_false,
 use Rattle.calculus.proofs.Budgets.{spent_exactly, spent_verdict, whole_verdict, spend_left}
 use Rattle.question.specs.Answers.{number_of, place_of}
 use Rattle.question.specs.declared.Refusal.{Refusal}
-use Rattle.prover.specs.declared.Decision.TheVariants.{Refused, Decided}
-use Rattle.prover.specs.Answers.{decision_of, Truthful, open_one, Counted, Promised}
+use Rattle.prover.specs.Answers.{Truthful, open_one, Counted, Promised}
 
 -- The verdict is Spent, or it is the tree's.
 kinds : {Q : Type 0} (b : ℕ) (S : Sequent) → ((verdict b S).kind ≡ Spent → Q) → ((verdict b S).kind ≡ (tree S).end → Q) → Q
@@ -62,19 +61,8 @@ counted b S =
 -- ---- the answers
 
 module _ (q : List ℕ) (b : ℕ) where
-  pub decided : reading q ≡ accepted → (v : Verdict) → v ≡ verdict b (question q) → decision_of (Decided v) ≡ decide_reply q b
-  decided a v e = rw (a, e)
-
-  pub promised : reading q ≡ accepted → (u : Verdict) → u ≡ verdict b (question q) → (v : Verdict) → Decided u ≡ Decided v → Promised q b v
-  promised a u e v d =
-      let w : verdict b (question q) ≡ v = sym e ∙ (cc) in
-      subst (Promised q b) w (record { read = a; truthful = truthful b (question q); counted = counted b (question q) })
+  pub promised : reading q ≡ accepted → Promised q b (verdict b (question q))
+  promised a = record { read = a; truthful = truthful b (question q); counted = counted b (question q) }
 
   pub budget_left : (o : Outcome) → o ≡ outcome b (question q) → o.unspent ≤ b
   budget_left o e = rw e (spend_left b (tree (question q)).events (tree (question q)).end)
-
-  pub refusal : (r : Refusal) → refused (number_of r) (place_of r) ≡ reading q → decision_of (Refused r) ≡ decide_reply q b
-  refusal r e = rw (← e)
-
-  pub refused_no_verdict : (r : Refusal) (v : Verdict) → Refused r ≡ Decided v → Promised q b v
-  refused_no_verdict r v e = let z : ◌≡◌ {A = ℕ} 0 1 = cc in absurd (omega arith)

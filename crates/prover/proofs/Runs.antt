@@ -1,11 +1,11 @@
 -- The run of a rule's premises, one after the other.
 -- Assumes nothing.
-use mathlib.Core.Path.{◌≡◌, refl, sym, ap, ◌∙◌}
+use mathlib.Core.Path.{◌≡◌, refl, sym, ap, ◌∙◌, subst}
 use mathlib.Core.List.{List, [], ◌∷◌, map}
 use Prim.Native.Nat.{ℕ, zero, suc, ◌+◌, ◌*◌, ◌^◌, ◌≤◌, ◌<◌}
 use native.Mathlib.Nat.{zero-add, add-zero, add_assoc}
 use native.Mathlib.Omega.{arith}
-use lib.ListN.{drop}
+use lib.ListN.{length, drop, get_or}
 use lib.Pow.{pow_mono}
 use Rattle.calculus.specs.declared.Kind.{Kind}
 use Rattle.calculus.specs.declared.Kind.TheVariants.{Theorem, Refuted, Spent, Full}
@@ -17,15 +17,16 @@ use Rattle.calculus.specs.Tree.{lettered, paired, Event, close, reduce, closings
 use Rattle.calculus.proofs.Bounds.{closings_bound, W_bound}
 use Rattle.calculus.proofs.Budgets.{spend_closings, outcome_step}
 use Rattle.sequent.specs.declared.Placing.{Placing}
-use Rattle.sequent.specs.declared.Rule.{Rule}
-use Rattle.sequent.specs.Rule.{placings}
-use Rattle.sequent.proofs.Placings.{OneOrTwo, Next, next_starts, next_goes, next_ends}
+use Rattle.sequent.proofs.Placings.{nowhere, next, next_ends}
+use Rattle.sequent.proofs.Goods.{premises_made, few, makes_next}
+use Rattle.sequent.specs.declared.Reduction.{Reduction}
+use Rattle.sequent.specs.Compounds.{rule_for, premises_at, premise_by, Makes}
 use Rattle.sequent.specs.declared.Running.{Running}
 use Rattle.sequent.specs.View.{view, sequent_of}
 use Rattle.prover.specs.declared.Finding.{Finding}
 use Rattle.prover.specs.declared.Reduced.{Reduced}
-use Rattle.prover.specs.Inner.{inner_of, Stepped}
-use Rattle.prover.specs.Runs.{after, made, outcome_of, Ran, Comes}
+use Rattle.prover.specs.Inner.{inner_of, Stepped, First}
+use Rattle.prover.specs.Runs.{after, made, ended, Ran, Comes}
 
 -- what the step answers, the run does
 pub answered : (T items : List ℕ) (s : Running) (b : ℕ) (f : Finding) → Stepped T items s b f → act outcome b (sequent_of T items s) (inner_of T (view s items) f) ≡ outcome b (sequent_of T items s)
@@ -56,82 +57,118 @@ pairings_small b S = pairings_less b (tree S).events (tree S).end
 
 -- ---- the premises ahead
 
--- an outcome after k closings, m of them by equal formulas
-abbrev more : ℕ → ℕ → Outcome → Outcome
-more k m v = record { kind = v.kind; unspent = v.unspent; closings = k + v.closings; pairings = m + v.pairings }
-
 stops : (k : Kind) → (k ≡ Theorem → ⊥) → (o : Outcome) (u : ℕ → Outcome) (Ps : List Sequent) → (and_then k o u ≡ o) × (after k Ps ≡ [])
 stops Theorem n o u Ps = absurd (n refl)
 stops (Refuted σ) n o u Ps = (refl, refl)
 stops Spent n o u Ps = (refl, refl)
 stops Full n o u Ps = (refl, refl)
 
--- j premises are run: o reductions are left, k sequents were closed, m of them by equal formulas, n places were stored, and p is the
--- next placing
-pub record Ahead (F : Placing → Sequent) (r : Rule) (b j o k m n : ℕ) (p : Placing) : Type 0 where
-  pub next : Next r j p
-  pub outcome : pass outcome b (map F (placings r)) ≡ more k m (pass outcome o (map F (drop j (placings r))))
-  pub stores : n + fold SUM size (made o (map F (drop j (placings r)))) ≡ fold SUM size (made b (map F (placings r)))
-  pub few : k ≤ 2 ^ CONNECTIVES * j
-  pub among : m ≤ k
+-- an outcome so far, and that of the premise after it
+abbrev pub and_so : Outcome → Outcome → Outcome
+and_so o v = record { kind = v.kind; unspent = v.unspent; closings = o.closings + v.closings; pairings = o.pairings + v.pairings }
+
+-- j premises of a reduction's rule are run and closed, and come to o so far, with n places stored
+pub record Ahead (T items : List ℕ) (s : Running) (r : Reduction) (rule : List Placing) (b j : ℕ) (o : Outcome) (n : ℕ) : Type 0 where
+  pub reduction : First T items s r
+  pub rows : rule ≡ rule_for r
+  pub inside : c (sequent_of T items s) ≤ CONNECTIVES
+  pub closed : o.kind ≡ Theorem
+  pub outcome : pass outcome b (map (premise_by T items s r) rule) ≡ and_so o (pass outcome o.unspent (map (premise_by T items s r) (drop j rule)))
+  pub stores : n + fold SUM size (made o.unspent (map (premise_by T items s r) (drop j rule))) ≡ fold SUM size (made b (map (premise_by T items s r) rule))
+  pub few : o.closings ≤ 2 ^ CONNECTIVES * j
+  pub among : o.pairings ≤ o.closings
   pub small : n ≤ ROOM * j
 
-module _ (F : Placing → Sequent) (r : Rule) (count : OneOrTwo r) (b : ℕ) where
-  pub ahead_starts : Ahead F r b 0 b 0 0 0 r.first
-  ahead_starts =
-      let v = pass outcome b (map F (placings r)) in
-      record {
-        next = next_starts r count;
-        outcome = λ i. record { kind = v.kind; unspent = v.unspent; closings = sym (zero-add v.closings) i; pairings = sym (zero-add v.pairings) i };
-        stores = zero-add _;
-        few = omega arith;
-        among = omega arith;
-        small = omega arith;
-      }
+pub ahead_starts : (T items : List ℕ) (s : Running) (r : Reduction) (rule : List Placing) (b : ℕ) → First T items s r → rule ≡ rule_for r → c (sequent_of T items s) ≤ CONNECTIVES
+    → Ahead T items s r rule b 0 (ended Theorem b 0 0) 0
+ahead_starts T items s r rule b f e k =
+    let v = pass outcome b (map (premise_by T items s r) rule) in
+    record {
+      reduction = f;
+      rows = e;
+      inside = k;
+      closed = refl;
+      outcome = λ i. record { kind = v.kind; unspent = v.unspent; closings = sym (zero-add v.closings) i; pairings = sym (zero-add v.pairings) i };
+      stores = zero-add _;
+      few = omega arith;
+      among = omega arith;
+      small = omega arith;
+    }
 
-  module _ (j o k m n : ℕ) (p : Placing) (a : Ahead F r b j o k m n p) (h : j < r.premises) (u : Reduced) (e : Ran o (F p) u) where
+module _ {T items : List ℕ} {s : Running} {r : Reduction} {rule : List Placing} {b j : ℕ} {o : Outcome} {n : ℕ} (a : Ahead T items s r rule b j o n) where
+  abbrev premise_at : ℕ → Sequent
+  premise_at i = premise_by T items s r (get_or rule i nowhere)
+
+  ended_premises : map (premise_by T items s r) rule ≡ premises_at T items s r
+  ended_premises = premises_made T items s a.reduction.good r a.reduction.can rule a.rows
+
+  module _ (h : j < length rule) where
+    -- the next premise can be made
+    pub ahead_makes : Makes T items s r (get_or rule j nowhere)
+    ahead_makes = makes_next T items s a.reduction.good r a.reduction.can rule a.rows j h
+
     abbrev rest : List Sequent
-    rest = map F (drop (j + 1) (placings r))
+    rest = map (premise_by T items s r) (drop (j + 1) rule)
 
-    opened : pass outcome o (map F (drop j (placings r))) ≡ and_then u.kind (outcome_of u) (λ l. pass outcome l rest)
-    opened = ap (λ (ps : List Placing). pass outcome o (map F ps)) (a.next.next h) ∙ ap (λ (v : Outcome). and_then v.kind v (λ l. pass outcome l rest)) (sym e.outcome)
+    module _ {u : Reduced} (e : Ran o.unspent (premise_by T items s r (get_or rule j nowhere)) u) where
+      opened : pass outcome o.unspent (map (premise_by T items s r) (drop j rule)) ≡ and_then u.outcome.kind u.outcome (λ l. pass outcome l rest)
+      opened = ap (λ (ps : List Placing). pass outcome o.unspent (map (premise_by T items s r) ps)) (next rule j h) ∙ ap (λ (v : Outcome). and_then v.kind v (λ l. pass outcome l rest)) (sym e.outcome)
 
-    made_opened : made o (map F (drop j (placings r))) ≡ F p ∷ after u.kind (made u.unspent rest)
-    made_opened =
-        ap (λ (ps : List Placing). made o (map F ps)) (a.next.next h)
-        ∙ ap (λ (v : Outcome). F p ∷ after v.kind (made v.unspent rest)) (sym e.outcome)
+      made_opened : made o.unspent (map (premise_by T items s r) (drop j rule)) ≡ premise_at j ∷ after u.outcome.kind (made u.outcome.unspent rest)
+      made_opened =
+          ap (λ (ps : List Placing). made o.unspent (map (premise_by T items s r) ps)) (next rule j h)
+          ∙ ap (λ (v : Outcome). premise_at j ∷ after v.kind (made v.unspent rest)) (sym e.outcome)
 
-    pub ahead_goes : u.kind ≡ Theorem → u.closings ≤ 2 ^ CONNECTIVES → u.pairings ≤ u.closings → size (F p) ≤ ROOM
-        → Ahead F r b (j + 1) u.unspent (k + u.closings) (m + u.pairings) (n + u.stores) r.second
-    ahead_goes t f d g =
-        let v = pass outcome u.unspent rest in
-        let w : made o (map F (drop j (placings r))) ≡ F p ∷ made u.unspent rest = rw t at made_opened in
-        record {
-          next = next_goes r count j p a.next h;
-          outcome = a.outcome ∙ ap (more k m) (rw t at opened) ∙ (λ i. record { kind = v.kind; unspent = v.unspent; closings = sym (add_assoc k u.closings v.closings) i; pairings = sym (add_assoc m u.pairings v.pairings) i });
-          stores = omega (arith, a.stores, ap (fold SUM size) w, e.stores);
-          few = omega (arith, a.few);
-          among = omega (arith, a.among, d);
-          small = omega (arith, a.small, e.stores);
-        }
+      closings_fit : u.outcome.closings ≤ 2 ^ CONNECTIVES
+      closings_fit = omega (arith, ap (λ (v : Outcome). v.closings) e.outcome, closings_small o.unspent (premise_at j) (omega (arith, ahead_makes.fewer, a.inside)))
 
-    pub ahead_stops : (u.kind ≡ Theorem → ⊥) → Comes b (map F (placings r)) (record { kind = u.kind; unspent = u.unspent; closings = k + u.closings; pairings = m + u.pairings; stores = n + u.stores })
-    ahead_stops t =
-        let s = stops u.kind t (outcome_of u) (λ l. pass outcome l rest) (made u.unspent rest) in
-        let w : made o (map F (drop j (placings r))) ≡ F p ∷ [] = made_opened ∙ ap (λ (Ps : List Sequent). F p ∷ Ps) s.1 in
-        record {
-          outcome = sym (a.outcome ∙ ap (more k m) (opened ∙ s.0));
-          stores = omega (arith, a.stores, ap (fold SUM size) w, e.stores);
-        }
+      pairings_fit : u.outcome.pairings ≤ u.outcome.closings
+      pairings_fit = subst (λ (v : Outcome). v.pairings ≤ v.closings) (sym e.outcome) (pairings_small o.unspent (premise_at j))
 
-  pub ahead_ends : (j o k m n : ℕ) (p : Placing) → Ahead F r b j o k m n p → r.premises ≤ j
-      → Comes b (map F (placings r)) (record { kind = Theorem; unspent = o; closings = k; pairings = m; stores = n })
-  ahead_ends j o k m n p a h =
-      let e = next_ends r count j h in
-      record {
-        outcome = sym (a.outcome ∙ ap (λ (ps : List Placing). more k m (pass outcome o (map F ps))) e ∙ (λ i. record { kind = Theorem; unspent = o; closings = add-zero k i; pairings = add-zero m i }));
-        stores = omega (arith, a.stores, ap (λ (ps : List Placing). fold SUM size (made o (map F ps))) e);
-      }
+      -- what is counted fits
+      pub ahead_fits : (o.closings + u.outcome.closings ≤ 2 ^ CONNECTIVES * 2) × (o.pairings + u.outcome.pairings ≤ 2 ^ CONNECTIVES * 2) × (n + u.stores ≤ ROOM * 2)
+      ahead_fits =
+          let two = few T items s a.reduction.good r a.reduction.can rule a.rows in
+          let k = closings_fit in
+          let m = pairings_fit in
+          (omega (arith, a.few), omega (arith, a.few, a.among), omega (arith, a.small, e.stores, ahead_makes.small))
+
+      pub ahead_goes : u.outcome.kind ≡ Theorem → Ahead T items s r rule b (j + 1) (and_so o u.outcome) (n + u.stores)
+      ahead_goes t =
+          let v = pass outcome u.outcome.unspent rest in
+          let w : made o.unspent (map (premise_by T items s r) (drop j rule)) ≡ premise_at j ∷ made u.outcome.unspent rest = rw t at made_opened in
+          let k = closings_fit in
+          let m = pairings_fit in
+          record {
+            reduction = a.reduction;
+            rows = a.rows;
+            inside = a.inside;
+            closed = t;
+            outcome = a.outcome ∙ ap (and_so o) (rw t at opened) ∙ (λ i. record { kind = v.kind; unspent = v.unspent; closings = sym (add_assoc o.closings u.outcome.closings v.closings) i; pairings = sym (add_assoc o.pairings u.outcome.pairings v.pairings) i });
+            stores = omega (arith, a.stores, ap (fold SUM size) w, e.stores);
+            few = omega (arith, a.few);
+            among = omega (arith, a.among);
+            small = omega (arith, a.small, e.stores, ahead_makes.small);
+          }
+
+      pub ahead_stops : (u.outcome.kind ≡ Theorem → ⊥) → Comes b (premises_at T items s r) (record { outcome = and_so o u.outcome; stores = n + u.stores })
+      ahead_stops t =
+          let k = stops u.outcome.kind t u.outcome (λ l. pass outcome l rest) (made u.outcome.unspent rest) in
+          let w : made o.unspent (map (premise_by T items s r) (drop j rule)) ≡ premise_at j ∷ [] = made_opened ∙ ap (λ (Ps : List Sequent). premise_at j ∷ Ps) k.1 in
+          rw (← ended_premises)
+          (record {
+            outcome = sym (a.outcome ∙ ap (and_so o) (opened ∙ k.0));
+            stores = omega (arith, a.stores, ap (fold SUM size) w, e.stores);
+          })
+
+  pub ahead_ends : length rule ≤ j → Comes b (premises_at T items s r) (record { outcome = o; stores = n })
+  ahead_ends h =
+      let e = next_ends rule j h in
+      rw (← ended_premises)
+      (record {
+        outcome = sym (a.outcome ∙ ap (λ (ps : List Placing). and_so o (pass outcome o.unspent (map (premise_by T items s r) ps))) e ∙ (λ i. record { kind = sym a.closed i; unspent = o.unspent; closings = add-zero o.closings i; pairings = add-zero o.pairings i }));
+        stores = omega (arith, a.stores, ap (λ (ps : List Placing). fold SUM size (made o.unspent (map (premise_by T items s r) ps))) e);
+      })
 
 -- ---- the premises made are all of the rule's, unless the run ended in the first
 

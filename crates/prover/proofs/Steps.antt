@@ -19,33 +19,15 @@ use Rattle.calculus.specs.Tree.{letters, state, Way, closing, first, due, tests,
 use Rattle.calculus.proofs.Folds.{or_false_both}
 use Rattle.sequent.specs.declared.Running.{Running}
 use Rattle.sequent.specs.declared.Reduction.{Reduction}
-use Rattle.sequent.specs.declared.Place.TheVariants.{At, Nowhere}
+use Rattle.std.specs.Prelude.{None}
 use Rattle.sequent.specs.Rule.{rule_of, premise_of, overfull_of}
 use Rattle.sequent.specs.View.{view, count_of, name_at, sequent_of, Good}
-use Rattle.sequent.specs.Compounds.{Found, EqualAt, compound_at, rule_for, reduction_at}
+use Rattle.sequent.specs.Compounds.{FoundAt, Found, EqualAt, compound_at, rule_for, reduction_at}
 use Rattle.sequent.proofs.Restarts.{found_inside, found_name}
 use Rattle.sequent.proofs.Goods.{held, slot_name, compounded, full_is, found_left, found_right, found_nowhere}
 use Rattle.prover.specs.Inner.{ReadyAt}
 
 -- ---- FULL
-
--- the digits of the parts placed, by side
-abbrev pub row_of : Side → ℕ
-row_of Left = 0x2112100
-row_of Right = 0x2221100
-
--- they are the table's
-pub digit_placed : (k : Connective) (s : Side) → row_of s / 2 ^ (4 * code (CONNECTIVE k)) % 16 ≡ size (premise_of (rule_of k s).first)
-digit_placed NOT Left = refl
-digit_placed NOT Right = refl
-digit_placed (two AND) Left = refl
-digit_placed (two AND) Right = refl
-digit_placed (two OR) Left = refl
-digit_placed (two OR) Right = refl
-digit_placed (two IMPLIES) Left = refl
-digit_placed (two IMPLIES) Right = refl
-digit_placed (two EQUIV) Left = refl
-digit_placed (two EQUIV) Right = refl
 
 -- no premise is over the room
 each_within : (Ps : List Sequent) → fold ANY (λ P. ltb ROOM (size P)) Ps ≡ false → Each (λ P. size P ≤ ROOM) Ps
@@ -56,7 +38,7 @@ each_within (P ∷ Ps) h =
 
 -- ---- the reduction of the first compound
 
-module _ (T items : List ℕ) (s : Running) (good : Good T items s) (t : Side) (i : ℕ) (found : Found (view s items) (At t i)) where
+module _ (T items : List ℕ) (s : Running) (good : Good T items s) (t : Side) (i : ℕ) (found : FoundAt (view s items) t i) where
   pub first_inside : i < count_of t s
   first_inside = found_inside s items good.places good.room t i found
 
@@ -118,10 +100,10 @@ module _ (T items : List ℕ) (s : Running) (good : Good T items s) (left : ℕ)
   pub inner_closed : (w : Way) → closing (sequent_of T items s) ≡ some w → is_closed w ≡ inner left (sequent_of T items s)
   inner_closed w e = ap (λ o. afford left (tests (sequent_of T items s) o (first (sequent_of T items s).on_left) (first (sequent_of T items s).on_right))) (sym e)
 
-  pub inner_due : closing (sequent_of T items s) ≡ none → (t : Side) (i : ℕ) → Found (view s items) (At t i)
+  pub inner_due : closing (sequent_of T items s) ≡ none → (t : Side) (i : ℕ) → FoundAt (view s items) t i
       → afford left (due (sequent_of T items s) t i (compound_at T t i (view s items))) ≡ inner left (sequent_of T items s)
   inner_due e Left i h = rw (e, found_left T items s good i h)
   inner_due e Right i h = let w = found_right T items s good i h in rw (e, w.0, w.1)
 
-  pub inner_open : closing (sequent_of T items s) ≡ none → Found (view s items) Nowhere → (m : ℕ) → m ≡ state (letters (sequent_of T items s).on_left) → is_open m ≡ inner left (sequent_of T items s)
+  pub inner_open : closing (sequent_of T items s) ≡ none → Found (view s items) None → (m : ℕ) → m ≡ state (letters (sequent_of T items s).on_left) → is_open m ≡ inner left (sequent_of T items s)
   inner_open e h m d = let w = found_nowhere T items s good h in rw (e, w.0, w.1) (ap is_open d)

@@ -1,5 +1,5 @@
 -- The answer of the call that decides: document 01's number and values, and what demands 2 and 3 say of it.
-use Rattle.std.specs.Prelude.{◌≡◌, ◌≢◌, ◌↔◌, true, false, List, [], ◌∷◌, ℕ, ◌+◌, ◌*◌, ◌≤◌, ◌<◌}
+use Rattle.std.specs.Prelude.{◌≡◌, ◌≢◌, ◌↔◌, true, false, List, [], ◌∷◌, ℕ, ◌+◌, ◌*◌, ◌≤◌, ◌<◌, Result, Ok, Err}
 use Rattle.calculus.specs.declared.Kind.{Kind}
 use Rattle.calculus.specs.declared.Kind.TheVariants.{Theorem, Refuted, Spent, Full}
 use Rattle.calculus.specs.declared.Verdict.{Verdict}
@@ -11,13 +11,12 @@ use Rattle.calculus.specs.Truth.{value, Valid}
 use Rattle.calculus.specs.Tree.{tree, reductions, closings, closings_before}
 use Rattle.calculus.specs.Width.{W}
 use Rattle.calculus.specs.Reply.{Reply, verdict_reply}
+use Rattle.question.specs.declared.Refusal.{Refusal}
 use Rattle.question.specs.Answers.{number_of, place_of}
-use Rattle.prover.specs.declared.Decision.{Decision}
-use Rattle.prover.specs.declared.Decision.TheVariants.{Refused, Decided}
 
-abbrev pub decision_of : Decision → Reply
-decision_of (Refused r) = record { number = number_of r; values = place_of r ∷ [] }
-decision_of (Decided v) = verdict_reply v.kind v.reductions v.closings
+abbrev pub decision_of : Result Verdict Refusal → Reply
+decision_of (Ok v) = verdict_reply v.kind v.reductions v.closings
+decision_of (Err r) = record { number = number_of r; values = place_of r ∷ [] }
 
 -- demand 2: "unless its run ends SPENT or FULL, an accepted question is a theorem exactly if every state makes it true,
 -- and otherwise the state returned makes each left formula true and each right one false"

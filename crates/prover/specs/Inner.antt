@@ -5,9 +5,8 @@ use Rattle.calculus.specs.Syntax.{Seq}
 use Rattle.calculus.specs.Tree.{lettered, paired, Inner, is_closed, is_open, is_full, is_spent, is_due, inner}
 use Rattle.sequent.specs.declared.Running.{Running}
 use Rattle.sequent.specs.declared.Reduction.{Reduction}
-use Rattle.sequent.specs.declared.Place.TheVariants.{At}
 use Rattle.sequent.specs.View.{view, sequent_of, Good}
-use Rattle.sequent.specs.Compounds.{Found, compound_at, Reducible}
+use Rattle.sequent.specs.Compounds.{FoundAt, compound_at, Reducible}
 use Rattle.prover.specs.declared.Finding.{Finding}
 use Rattle.prover.specs.declared.Finding.TheVariants.{Closed, Paired, Open, Full, Spent, Reduce}
 
@@ -22,7 +21,7 @@ inner_of T N (Reduce r) = is_due r.side r.at (compound_at T r.side r.at N)
 
 -- a reduction that is due is that of the first compound, it can be made, and the budget has one left
 pub record ReadyAt (T items : List ℕ) (s : Running) (left : ℕ) (r : Reduction) : Type 0 where
-  pub found : Found (view s items) (At r.side r.at)
+  pub found : FoundAt (view s items) r.side r.at
   pub can : Reducible T items s r
   pub affords : 0 < left
 
@@ -42,5 +41,5 @@ pub record Stepped (T items : List ℕ) (s : Running) (left : ℕ) (r : Finding)
 -- the reduction of the first compound can be made
 pub record First (T items : List ℕ) (s : Running) (r : Reduction) : Type 0 where
   pub good : Good T items s
-  pub found : Found (view s items) (At r.side r.at)
+  pub found : FoundAt (view s items) r.side r.at
   pub can : Reducible T items s r

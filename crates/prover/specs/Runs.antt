@@ -24,15 +24,12 @@ made b (P ∷ Ps) = P ∷ after (outcome b P).kind (made (outcome b P).unspent P
 abbrev pub ended : Kind → ℕ → ℕ → ℕ → Outcome
 ended k b n m = record { kind = k; unspent = b; closings = n; pairings = m }
 
-abbrev pub outcome_of : Reduced → Outcome
-outcome_of r = record { kind = r.kind; unspent = r.unspent; closings = r.closings; pairings = r.pairings }
-
 -- what a premise comes to; the stores made for it are its formulas
 pub record Ran (b : ℕ) (P : Sequent) (r : Reduced) : Type 0 where
-  pub outcome : outcome_of r ≡ outcome b P
+  pub outcome : r.outcome ≡ outcome b P
   pub stores : r.stores ≡ size P
 
 -- what a reduction with these premises comes to; the stores are the formulas of the premises made, together
 pub record Comes (b : ℕ) (Ps : List Sequent) (r : Reduced) : Type 0 where
-  pub outcome : outcome_of r ≡ pass outcome b Ps
+  pub outcome : r.outcome ≡ pass outcome b Ps
   pub stores : r.stores ≡ fold SUM size (made b Ps)

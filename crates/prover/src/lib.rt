@@ -1,26 +1,25 @@
 // The inner step on a running sequent, the run made from it, and the call that decides.
 #![tactic(auto)]
 
-ghost use Rattle.std.specs.Prelude.{◌≡◌, ◌%◌, ◌≤◌, length};
+ghost use Rattle.std.specs.Prelude.{◌≡◌, ◌%◌, ◌≤◌, IfOk};
 ghost use Rattle.std.proofs.Math.Option.{none};
 ghost use Rattle.calculus.specs.Limits;
+ghost use Rattle.calculus.specs.Fold.{Each};
 ghost use Rattle.calculus.specs.Limits.{CONNECTIVES};
 ghost use Rattle.calculus.specs.Syntax.{Connective, c, size};
 ghost use Rattle.calculus.specs.Bytes.{CONNECTIVE, code, question};
-ghost use Rattle.calculus.specs.Reading.{reading, accepted};
 ghost use Rattle.calculus.specs.Reply.{decide_reply};
 ghost use Rattle.calculus.specs.Tree.{verdict_of, verdict, outcome, closing, afford, due};
-ghost use Rattle.sequent.specs.declared.Place.TheVariants.{At};
 ghost use Rattle.sequent.specs.Rule.{premise_of, overfull_of};
 ghost use Rattle.sequent.specs.View.{view, sequent_of, Good};
-ghost use Rattle.sequent.specs.Compounds.{Clear, Found, compound_at, rule_for, premises_at, premise_by, Makes};
+ghost use Rattle.sequent.specs.Compounds.{Clear, FoundAt, compound_at, rule_for, premises_at, premise_by, Makes};
 ghost use Rattle.prover.specs.Answers.{decision_of, Promised};
 ghost use Rattle.prover.specs.Inner.{inner_of, Ready, Stepped, First};
 ghost use Rattle.prover.specs.Runs.{ended, Ran, Comes};
 
 use calculus::{Kind, Outcome, Side, Verdict};
-use question::{Reading, Refusal};
-use sequent::{Pair, Place, Placing, ROOM, Reduction, Running};
+use question::{Question, Refusal};
+use sequent::{Names, Place, Placing, ROOM, Reduction, Running};
 
 // What is due at a sequent, with the reductions left.
 #[derive(Clone, Copy)]
@@ -40,10 +39,7 @@ pub enum Finding {
 // What a reduction comes to, and the stores made for its premises.
 #[derive(Clone, Copy)]
 pub struct Reduced {
-    pub kind: Kind,
-    pub unspent: u64,
-    pub closings: u64,
-    pub pairings: u64,
+    pub outcome: Outcome,
     pub stores: usize,
 }
 
@@ -52,10 +48,10 @@ const LEFT: u32 = 0x2_1_1_2_1_0_0;
 
 const RIGHT: u32 = 0x2_2_2_1_1_0_0;
 
-// How many parts each premise of a reduction places. Both premises of a rule place as many.
+// The same of a reduction. Both premises of a rule place as many.
 fn placed(r: Reduction) -> usize
     requires { (k : Connective) × (code (CONNECTIVE k) ≡ r.node % 256) }
-    ensures { result ≡ size (premise_of (rule_for r).first) }
+    ensures { Each (λ p. size (premise_of p) ≡ result) (rule_for r) }
 {
     let side = r.side;
     let row = match side {
@@ -74,25 +70,18 @@ fn overfull(r: Reduction, n: usize) -> bool
 }
 
 // The tests at a sequent whose first compound is at a place of a side: FULL, SPENT, then the reduction.
-fn due_at(
-    nodes: &[u32; 48],
-    items: &[u8; 80],
-    s: Running,
-    side: Side,
-    at: usize,
-    left: u64,
-) -> Finding
-    requires { Good nodes.now items.now s × Found (view s items.now) (At side at) }
-    ensures { (inner_of nodes.now (view s items.now) result
+fn due_at(t: Names<'_>, s: Running, p: Place, left: u64) -> Finding
+    requires { Good t.nodes.now t.items.now s × FoundAt (view s t.items.now) p.side p.at }
+    ensures { (inner_of t.entry.nodes.now (view s t.entry.items.now) result
         ≡ afford left
         (due
-        (sequent_of nodes.now items.now s)
-        side
-        at
-        (compound_at nodes.now side at (view s items.now))))
-        × Ready nodes.now items.now s left result }
+        (sequent_of t.entry.nodes.now t.entry.items.now s)
+        p.side
+        p.at
+        (compound_at t.entry.nodes.now p.side p.at (view s t.entry.items.now))))
+        × Ready t.entry.nodes.now t.entry.items.now s left result }
 {
-    let r = s.reduction(nodes, items, side, at);
+    let r = s.reduction(t, p.side, p.at);
     if overfull(r, s.lefts + s.rights) {
         return Finding::Full;
     }
@@ -103,33 +92,31 @@ fn due_at(
 }
 
 // The tests at a sequent that is not closed.
-fn first_due(nodes: &[u32; 48], items: &[u8; 80], s: Running, from: usize, left: u64) -> Finding
-    requires { Good nodes.now items.now s
-        × Clear from items.now s
-        × (closing (sequent_of nodes.now items.now s) ≡ none) }
-    ensures { Stepped nodes.now items.now s left result }
+fn first_due(t: Names<'_>, s: Running, from: usize, left: u64) -> Finding
+    requires { Good t.nodes.now t.items.now s
+        × Clear from t.items.now s
+        × (closing (sequent_of t.nodes.now t.items.now s) ≡ none) }
+    ensures { Stepped t.entry.nodes.now t.entry.items.now s left result }
 {
-    let place = s.first_compound(items, from);
-    match place {
-        Place::At(side, at) => due_at(nodes, items, s, side, at, left),
-        Place::Nowhere => Finding::Open(s.leftmask),
+    match s.first_compound(t.items, from) {
+        Some(p) => due_at(t, s, p, left),
+        None => Finding::Open(s.leftmask),
     }
 }
 
 // The inner step: one sequent through the tests in their order, with the reductions left. Its answer says what is due and
 // does nothing, so that no run made from it goes on after SPENT. Letters alone stand before place `from`.
-pub fn step(nodes: &[u32; 48], items: &[u8; 80], s: Running, from: usize, left: u64) -> Finding
-    requires { Good nodes.now items.now s × Clear from items.now s }
-    ensures { Stepped nodes.now items.now s left result }
+pub fn step(t: Names<'_>, s: Running, from: usize, left: u64) -> Finding
+    requires { Good t.nodes.now t.items.now s × Clear from t.items.now s }
+    ensures { Stepped t.entry.nodes.now t.entry.items.now s left result }
 {
     let shared = s.leftmask & s.rightmask;
     if shared != 0 {
-        return Finding::Closed(u64::trailing_zeros(shared));
+        return Finding::Closed(shared.trailing_zeros());
     }
-    let twins = s.twins(items);
-    match twins {
-        Pair::Both(i, j) => Finding::Paired(i, j),
-        Pair::Neither => first_due(nodes, items, s, from, left),
+    match s.twins(t.items) {
+        Some(p) => Finding::Paired(p.left, p.right),
+        None => first_due(t, s, from, left),
     }
 }
 
@@ -137,135 +124,93 @@ fn ended(kind: Kind, left: u64, closings: u64, pairings: u64) -> Outcome
     ensures { result ≡ ended kind left closings pairings }
 {
     Outcome {
-        kind: kind,
+        kind,
         unspent: left,
-        closings: closings,
-        pairings: pairings,
+        closings,
+        pairings,
     }
 }
 
 // The run: reductions left go in and come out.
 #[cycle(reduce_run_run_premise)]
-fn run(nodes: &[u32; 48], items: &[u8; 80], s: Running, from: usize, left: u64) -> Outcome
-    requires { Good nodes.now items.now s
-        × Clear from items.now s
-        × (c (sequent_of nodes.now items.now s) ≤ CONNECTIVES) }
-    ensures { result ≡ outcome left (sequent_of nodes.now items.now s) }
+fn run(t: Names<'_>, s: Running, from: usize, left: u64) -> Outcome
+    requires { Good t.nodes.now t.items.now s
+        × Clear from t.items.now s
+        × (c (sequent_of t.nodes.now t.items.now s) ≤ CONNECTIVES) }
+    ensures { result ≡ outcome left (sequent_of t.entry.nodes.now t.entry.items.now s) }
 {
-    let due = step(nodes, items, s, from, left);
-    match due {
+    match step(t, s, from, left) {
         Finding::Closed(_) => ended(Kind::Theorem, left, 1, 0),
         Finding::Paired(_, _) => ended(Kind::Theorem, left, 1, 1),
         Finding::Open(state) => ended(Kind::Refuted(state), left, 0, 0),
         Finding::Full => ended(Kind::Full, left, 0, 0),
         Finding::Spent => ended(Kind::Spent, left, 0, 0),
-        Finding::Reduce(r) => {
-            let o = reduce(nodes, items, s, r, left - 1);
-            let kind = o.kind;
-            ended(kind, o.unspent, o.closings, o.pairings)
-        }
-    }
-}
-
-// The same kind, put together anew: a copy takes the unused bytes between its mark and its state along, which takes longer.
-fn same(kind: Kind) -> Kind
-    ensures { result ≡ kind }
-{
-    match kind {
-        Kind::Theorem => Kind::Theorem,
-        Kind::Refuted(state) => Kind::Refuted(state),
-        Kind::Spent => Kind::Spent,
-        Kind::Full => Kind::Full,
+        Finding::Reduce(r) => reduce(t, s, r, left - 1).outcome,
     }
 }
 
 // A premise of the reduction, made in a list that is lent for it, and run.
 #[cycle(reduce_run_run_premise)]
 fn run_premise(
-    nodes: &[u32; 48],
-    items: &[u8; 80],
+    t: Names<'_>,
     s: Running,
     r: Reduction,
     p: Placing,
     left: u64,
     next: &mut [u8; 80],
 ) -> Reduced
-    requires { Makes nodes.now items.now s r p
-        × Found (view s items.now) (At r.side r.at)
-        × (c (sequent_of nodes.now items.now s) ≤ CONNECTIVES)
-        × (length next.old ≡ Limits.ROOM) }
-    ensures { Ran left (premise_by nodes.now items.now s r p) result
-        × (length next.new ≡ Limits.ROOM) }
+    requires { Makes t.nodes.now t.items.now s r p
+        × FoundAt (view s t.items.now) r.side r.at
+        × (c (sequent_of t.nodes.now t.items.now s) ≤ CONNECTIVES) }
+    ensures { Ran left (premise_by t.entry.nodes.now t.entry.items.now s r p) result }
 {
-    let made = s.premise(items, next, r, p);
-    let t = made.running;
-    let side = r.side;
-    let o = run(nodes, next, t, s.start(side, r.at), left);
-    let kind = o.kind;
+    let made = s.premise(t.items, next, r, p);
+    let t = Names { items: next, ..t };
+    let outcome = run(t, made.running, s.start(r.side, r.at), left);
     Reduced {
-        kind: same(kind),
-        unspent: o.unspent,
-        closings: o.closings,
-        pairings: o.pairings,
+        outcome,
         stores: made.stores,
     }
 }
 
 // The reduction that is due: the first premise is finished, then the second is taken up.
 #[cycle(reduce_run_run_premise)]
-fn reduce(nodes: &[u32; 48], items: &[u8; 80], s: Running, r: Reduction, left: u64) -> Reduced
-    requires { First nodes.now items.now s r × (c (sequent_of nodes.now items.now s) ≤ CONNECTIVES) }
-    ensures { Comes left (premises_at nodes.now items.now s r) result }
+fn reduce(t: Names<'_>, s: Running, r: Reduction, left: u64) -> Reduced
+    requires { First t.nodes.now t.items.now s r
+        × (c (sequent_of t.nodes.now t.items.now s) ≤ CONNECTIVES) }
+    ensures { Comes left (premises_at t.entry.nodes.now t.entry.items.now s r) result }
 {
     let rule = r.rule();
-    let n = rule.premises;
-    let mut p = rule.first;
-    let mut unspent = left;
-    let mut closings = 0;
-    let mut pairings = 0;
+    let mut o = ended(Kind::Theorem, left, 0, 0);
     let mut stores = 0;
     let mut next = [0u8; 80];
-    let mut j = 0;
-    while j < n {
-        let o = run_premise(nodes, items, s, r, p, unspent, &mut next);
-        unspent = o.unspent;
-        closings += o.closings;
-        pairings += o.pairings;
-        stores += o.stores;
-        let kind = o.kind;
-        match kind {
-            Kind::Theorem => {}
-            _ => {
-                return Reduced {
-                    kind: kind,
-                    unspent: unspent,
-                    closings: closings,
-                    pairings: pairings,
-                    stores: stores,
-                };
-            }
-        }
-        p = rule.second;
-        j += 1;
+    for &p in rule {
+        let m = run_premise(t, s, r, p, o.unspent, &mut next);
+        stores += m.stores;
+        o = Outcome {
+            closings: o.closings + m.outcome.closings,
+            pairings: o.pairings + m.outcome.pairings,
+            ..m.outcome
+        };
+        let Kind::Theorem = o.kind else {
+            break;
+        };
     }
-    Reduced {
-        kind: Kind::Theorem,
-        unspent: unspent,
-        closings: closings,
-        pairings: pairings,
-        stores: stores,
-    }
+    Reduced { outcome: o, stores }
 }
 
 // What the run of an accepted question comes to.
-pub fn outcome_of(q: &[u8], budget: u64) -> Outcome
-    requires { reading q.now ≡ accepted }
-    ensures { result ≡ outcome budget (question q.now) }
+pub fn outcome_of(q: Question<'_>, budget: u64) -> Outcome
+    ensures { result ≡ outcome budget (question q.entry.bytes.now) }
 {
     let mut nodes = [0u32; 48];
     let mut items = [0u8; 80];
     let s = names::root(q, &mut nodes, &mut items);
-    run(&nodes, &items, s, 0, budget)
+    let t = Names {
+        nodes: &nodes,
+        items: &items,
+    };
+    run(t, s, 0, budget)
 }
 
 // What is reported of it: the kind, the reductions and the closings.
@@ -273,37 +218,25 @@ pub fn report(o: Outcome, budget: u64) -> Verdict
     requires { o.unspent ≤ budget }
     ensures { result ≡ verdict_of budget o }
 {
-    let kind = o.kind;
     Verdict {
-        kind: kind,
+        kind: o.kind,
         reductions: budget - o.unspent,
         closings: o.closings,
     }
 }
 
 // The verdict of an accepted question.
-pub fn verdict_of(q: &[u8], budget: u64) -> Verdict
-    requires { reading q.now ≡ accepted }
-    ensures { result ≡ verdict budget (question q.now) }
+pub fn verdict_of(q: Question<'_>, budget: u64) -> Verdict
+    ensures { result ≡ verdict budget (question q.entry.bytes.now) }
 {
-    let o = outcome_of(q, budget);
-    report(o, budget)
-}
-
-#[derive(Clone, Copy)]
-pub enum Decision {
-    Refused(Refusal),
-    Decided(Verdict),
+    report(outcome_of(q, budget), budget)
 }
 
 // Decides a question within a budget of reductions.
-pub fn decide(q: &[u8], budget: u64) -> Decision
+pub fn decide(q: &[u8], budget: u64) -> Result<Verdict, Refusal>
     ensures reply { decision_of result ≡ decide_reply q.now budget }
-    ensures promise { (v : Verdict) → result ≡ Decision.Decided v → Promised q.now budget v }
+    ensures promise { IfOk result (Promised q.now budget) }
 {
-    let reading = question::read(q);
-    match reading {
-        Reading::Accepted => Decision::Decided(verdict_of(q, budget)),
-        Reading::Refused(r) => Decision::Refused(r),
-    }
+    let q = Question::read(q)?;
+    Ok(verdict_of(q, budget))
 }

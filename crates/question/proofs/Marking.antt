@@ -19,7 +19,7 @@ use Rattle.calculus.proofs.Folds.{or_left, or_right}
 use Rattle.calculus.proofs.Letters.{occurs_all}
 use Rattle.calculus.proofs.Trees.{bit_light, light_or}
 use Rattle.question.specs.Positions.{Reached, Marks}
-use Rattle.question.proofs.Walks.{Passed, passed_letter}
+use Rattle.question.proofs.Walks.{passed}
 
 -- one letter more
 pub bit_marked : (set k m : ℕ) → bit m (bit_or set (2 ^ k)) ≡ (bit m set || eqb m k)
@@ -35,36 +35,25 @@ pub marking_first : (q : List ℕ) (set at n : ℕ) → n ≤ length (formulas (
     → Marking q (take n (formulas (drop at q))) set set at n
 marking_first q set at n h k = record { due = h; below = λ j e. occurs_all LETTERS j (take n (formulas (drop at q))) k e; same = λ j. refl }
 
-module _ (q : List ℕ) (all : List Formula) (first set i d : ℕ) (a : Marking q all first set i d) where
+-- the letter at j is read: it is one, and with it in the set the marking stands past it
+pub record Marked (q : List ℕ) (all : List Formula) (first set j e : ℕ) : Type 0 where
+  pub letter : get_or q (j + 1) 0 < LETTERS
+  pub next : (r : ℕ) → ((k : ℕ) → bit k r ≡ (bit k set || eqb k (get_or q (j + 1) 0))) → Marking q all first r (j + 2) (e - 1)
+
+module _ {q : List ℕ} {all : List Formula} {first set i d : ℕ} (a : Marking q all first set i d) where
   pub marking_last : d ≤ 0 → Marks all first set
   marking_last l k =
       let z : d ≡ 0 = omega arith in
       sym (or-false (bit k set)) ∙ rw z at (a.same k)
 
-  -- at the next letter
-  pub marking_reached : (j e : ℕ) → Reached q i d j e → Marking q all first set j e
-  marking_reached j e r =
+  pub marking_next : {j e : ℕ} → Reached q i d j e → get_or q j 0 ≡ 1 → Marked q all first set j e
+  marking_next {j} {e} r h =
+      let w = passed r h in
+      let m = get_or q (j + 1) 0 in
+      let ahead : ℕ → Bool = λ k. fold ANY (occurs k) (take (e - 1) (formulas (drop (j + 2) q))) in
       record {
-        due = r.due;
-        below = λ k h. a.below k (sym (r.letters k) ∙ h);
-        same = λ k. ap (λ (x : Bool). bit k set || x) (r.letters k) ∙ a.same k;
-      }
-
-  -- past it
-  pub record Marked : Type 0 where
-    pub step : Passed q i d
-    pub letter : get_or q (i + 1) 0 < LETTERS
-    pub next : (r : ℕ) → ((k : ℕ) → bit k r ≡ (bit k set || eqb k (get_or q (i + 1) 0))) → Marking q all first r (i + 2) (d - 1)
-
-  pub marking_next : 1 ≤ d → get_or q i 0 ≡ 1 → Marked
-  marking_next h e =
-      let w = passed_letter q i d h a.due e in
-      let m = get_or q (i + 1) 0 in
-      let ahead : ℕ → Bool = λ k. fold ANY (occurs k) (take (d - 1) (formulas (drop (i + 2) q))) in
-      record {
-        step = w;
         letter = a.below m (w.letters m ∙ or_left (eqb m m) (ahead m) (eq-eqb m m refl));
-        next = λ r f. record {
+        next = λ s f. record {
           due = w.due;
           below = λ k l. a.below k (w.letters k ∙ or_right (eqb k m) (ahead k) l);
           same = λ k. ap (λ (x : Bool). x || ahead k) (f k) ∙ or_assoc (bit k set) (eqb k m) (ahead k) ∙ ap (λ (x : Bool). bit k set || x) (sym (w.letters k)) ∙ a.same k;

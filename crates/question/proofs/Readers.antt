@@ -107,11 +107,11 @@ first_head (suc (suc n)) d e f = refl
 
 -- where a formula is expected
 pub formula_due : (n d : ℕ) (s : Side) (m : ℕ) → expected_by n d ≡ Formula s m → (1 ≤ d) × (n ≤ 1)
-formula_due zero zero s m e = let z : ◌≡◌ {A = ℕ} 0 1 = cc in absurd (omega arith)
+formula_due zero zero s m e = absurd cc
 formula_due zero (suc d) s m e = omega arith
-formula_due (suc zero) zero s m e = let z : ◌≡◌ {A = ℕ} 0 1 = cc in absurd (omega arith)
+formula_due (suc zero) zero s m e = absurd cc
 formula_due (suc zero) (suc d) s m e = omega arith
-formula_due (suc (suc n)) d s m e = let z : ◌≡◌ {A = ℕ} 0 1 = cc in absurd (omega arith)
+formula_due (suc (suc n)) d s m e = absurd cc
 
 -- where a side's command is expected
 pub record Opens (n : ℕ) (s : Side) : Type 0 where
@@ -119,10 +119,10 @@ pub record Opens (n : ℕ) (s : Side) : Type 0 where
   pub behind : (m : ℕ) → expected_by (n - 1) m ≡ after s m
 
 pub opens : (n d : ℕ) (s : Side) → n ≤ 2 → expected_by n d ≡ Head s → Opens n s
-opens zero zero s h e = let z : ◌≡◌ {A = ℕ} 0 1 = cc in absurd (omega arith)
-opens zero (suc d) s h e = let z : ◌≡◌ {A = ℕ} 0 1 = cc in absurd (omega arith)
+opens zero zero s h e = absurd cc
+opens zero (suc d) s h e = absurd cc
 opens (suc zero) zero s h e = let i : Right ≡ s = cc in record { more = omega arith; behind = λ m. ap (λ (t : Side). after t m) i }
-opens (suc zero) (suc d) s h e = let z : ◌≡◌ {A = ℕ} 0 1 = cc in absurd (omega arith)
+opens (suc zero) (suc d) s h e = absurd cc
 opens (suc (suc zero)) d s h e = let i : Left ≡ s = cc in record { more = omega arith; behind = λ m. ap (λ (t : Side). after t m) i }
 opens (suc (suc (suc n))) d s h e = absurd (omega arith)
 
@@ -142,8 +142,8 @@ done_by l n d at e = go (leb l at) (eqb d 0) refl refl e
   where
     go : (t u : Bool) → leb l at ≡ t → eqb d 0 ≡ u → choose t (choose u (eqb n 0) false) false ≡ true → (l ≤ at) × (n ≡ 0) × (d ≡ 0)
     go true true h f e = (leb-true l at h, eqb-true n 0 e, eqb-true d 0 f)
-    go true false h f e = let z : ◌≡◌ {A = ℕ} 0 1 = cc in absurd (omega arith)
-    go false u h f e = let z : ◌≡◌ {A = ℕ} 0 1 = cc in absurd (omega arith)
+    go true false h f e = absurd cc
+    go false u h f e = absurd cc
 
 module _ (q : List ℕ) (k : Cursor) where
   pub read_done : done q k ≡ true → read_from q k ≡ accepted
@@ -155,7 +155,7 @@ module _ (q : List ℕ) (k : Cursor) where
   read_cut h e = rw (read_end q k.connectives k.at (expected_of k) h) (go k.sides k.due (rw le-leb at e))
     where
       go : (n d : ℕ) → choose (eqb d 0) (eqb n 0) false ≡ false → ended (expected_by n d) k.at ≡ refused CUT k.at
-      go zero zero e = let z : ◌≡◌ {A = ℕ} 0 1 = cc in absurd (omega arith)
+      go zero zero e = absurd cc
       go zero (suc d) e = refl
       go (suc zero) zero e = refl
       go (suc zero) (suc d) e = refl

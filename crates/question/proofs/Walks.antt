@@ -1,7 +1,7 @@
 -- Formulas at positions: what stands behind n formulas, and what a walk over commands passes.
 -- Assumes nothing.
 use mathlib.Core.Path.{◌≡◌, refl, sym, ap, ◌∙◌}
-use mathlib.Core.Bool.{Bool, true, false, ◌||◌, or_assoc}
+use mathlib.Core.Bool.{Bool, true, false, ◌&&◌, ◌||◌, or_assoc}
 use mathlib.Core.Option.{Option, none, some}
 use mathlib.Core.List.{List, [], ◌∷◌, append_assoc, append-nil}
 use Prim.Native.Nat.{ℕ, zero, suc, ◌+◌, ◌-◌, ◌≤◌, ◌<◌}
@@ -17,9 +17,17 @@ use Rattle.calculus.specs.Syntax.{Binary, AND, OR, IMPLIES, EQUIV, Connective, N
 use Rattle.calculus.specs.Bytes.{Command, SIDE, LETTER, CONNECTIVE, code, command, encode, encode_all, attach, spell, formulas, bytes, bytes_all}
 use Rattle.calculus.specs.States.{occurs}
 use Rattle.calculus.proofs.Spelling.{command_byte}
-use Rattle.question.specs.Positions.{Well, first_of, end_of, command_length, due_after, names, Reached}
+use Rattle.question.specs.Positions.{Well, first_of, end_of, due_after, Reached}
 
 -- ---- one command of a list of bytes that spells more than m formulas
+
+-- the bytes of a command with its operand
+abbrev pub command_length : ℕ → ℕ
+command_length b = choose (eqb b 1) 2 1
+
+-- a command with the byte behind it names letter k
+abbrev pub names : ℕ → ℕ → ℕ → Bool
+names b m k = eqb b 1 && eqb k m
 
 -- n bytes on, d formulas are due
 pub record Walked (l : List ℕ) (m n d : ℕ) : Type 0 where
@@ -204,7 +212,13 @@ some_after e b h k = rw k (go (eqb b 2))
     go true = h
     go false = omega arith
 
-module _ (q : List ℕ) (i d j e : ℕ) (a : Reached q i d j e) where
+-- past a letter, with d formulas due from there on: those from i on are this letter's and those behind it
+pub record Passed (q : List ℕ) (i d j e : ℕ) : Type 0 where
+  pub due : e - 1 ≤ length (formulas (drop (j + 2) q))
+  pub sizes : j + 2 + bytes_all (take (e - 1) (formulas (drop (j + 2) q))) ≡ i + bytes_all (take d (formulas (drop i q)))
+  pub letters : (k : ℕ) → fold ANY (occurs k) (take d (formulas (drop i q))) ≡ (eqb k (get_or q (j + 1) 0) || fold ANY (occurs k) (take (e - 1) (formulas (drop (j + 2) q))))
+
+module _ {q : List ℕ} {i d j e : ℕ} (a : Reached q i d j e) where
   step : Stepped q j e
   step = walked_at q j e a.some a.due
 
@@ -225,26 +239,15 @@ module _ (q : List ℕ) (i d j e : ℕ) (a : Reached q i d j e) where
             sym (rw (n, o) at (step.letters k)) ∙ a.letters k;
       }
 
--- a letter, with d formulas due from it on
-pub record Passed (q : List ℕ) (i d : ℕ) : Type 0 where
-  pub inside : i + 2 ≤ length q
-  pub small : d ≤ length q
-  pub due : d - 1 ≤ length (formulas (drop (i + 2) q))
-  pub sizes : i + 2 + bytes_all (take (d - 1) (formulas (drop (i + 2) q))) ≡ i + bytes_all (take d (formulas (drop i q)))
-  pub letters : (k : ℕ) → fold ANY (occurs k) (take d (formulas (drop i q))) ≡ (eqb k (get_or q (i + 1) 0) || fold ANY (occurs k) (take (d - 1) (formulas (drop (i + 2) q))))
-
-pub passed_letter : (q : List ℕ) (i d : ℕ) → 1 ≤ d → d ≤ length (formulas (drop i q)) → get_or q i 0 ≡ 1 → Passed q i d
-passed_letter q i d h k e =
-    let w = walked_at q i d h k in
-    let n : command_length (get_or q i 0) ≡ 2 = rw e in
-    let m : due_after d (get_or q i 0) ≡ d - 1 = rw e in
-    record {
-      inside = omega (arith, w.fits, n);
-      small = w.small;
-      due = rw (n, m) at w.due;
-      sizes = rw (n, m) at w.sizes;
-      letters = λ j. rw (n, m, e) at (w.letters j);
-    }
+  pub passed : get_or q j 0 ≡ 1 → Passed q i d j e
+  passed h =
+      let n : command_length (get_or q j 0) ≡ 2 = rw h in
+      let m : due_after e (get_or q j 0) ≡ e - 1 = rw h in
+      record {
+        due = rw (n, m) at step.due;
+        sizes = (rw (n, m) at step.sizes) ∙ a.sizes;
+        letters = λ k. sym (a.letters k) ∙ (rw (n, m, h) at (step.letters k));
+      }
 
 -- ---- formulas end within the bytes
 

@@ -1,5 +1,5 @@
 -- The formula at a position of a question's bytes.
-use Rattle.std.specs.Prelude.{◌≡◌, Bool, ◌&&◌, ◌||◌, List, [], ◌∷◌, ℕ, ◌+◌, ◌-◌, ◌≤◌, eqb, length, take, drop}
+use Rattle.std.specs.Prelude.{◌≡◌, ◌||◌, List, [], ◌∷◌, ℕ, ◌+◌, ◌-◌, ◌≤◌, eqb, length, take, drop}
 use Rattle.calculus.specs.declared.Part.{Part}
 use Rattle.calculus.specs.Fold.{fold, ANY, choose}
 use Rattle.calculus.specs.Syntax.{Formula, letter}
@@ -24,17 +24,9 @@ end_of q at = at + bytes (formula_at q at)
 
 -- ---- a walk over commands, d formulas being due
 
--- the bytes of a command with its operand
-abbrev pub command_length : ℕ → ℕ
-command_length b = choose (eqb b 1) 2 1
-
 -- the formulas due after a command
 abbrev pub due_after : ℕ → ℕ → ℕ
 due_after d b = choose (eqb b 1) (d - 1) (choose (eqb b 2) d (d + 1))
-
--- a command with the byte behind it names letter k
-abbrev pub names : ℕ → ℕ → ℕ → Bool
-names b m k = eqb b 1 && eqb k m
 
 -- d formulas from position i on, and e from position j on: connectives alone lie between
 pub record Reached (q : List ℕ) (i d j e : ℕ) : Type 0 where

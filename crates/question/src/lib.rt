@@ -1,7 +1,7 @@
 // Reading a question, and handing out its formulas.
 #![tactic(auto)]
 
-ghost use Rattle.std.specs.Prelude.{◌≡◌, ℕ, ◌+◌, ◌-◌, ◌^◌, ◌≤◌, ◌<◌, List, false, ◌||◌, eqb, length, take, drop, get_or, IfOk, MatchOption};
+ghost use Rattle.std.specs.Prelude.{◌≡◌, ℕ, ◌+◌, ◌-◌, ◌^◌, ◌≤◌, ◌<◌, List, false, ◌||◌, eqb, length, take, drop, get_or, IfOk, MatchResult, MatchOption};
 ghost use Rattle.calculus.specs.Fold.{Each};
 ghost use Rattle.calculus.specs.Limits;
 ghost use Rattle.calculus.specs.Limits.{LONGEST, FORMULAS};
@@ -45,7 +45,7 @@ pub enum Refusal {
 }
 
 impl Refusal {
-    // Document 01's number.
+    // Document 01's number, which the C interface hands on.
     pub fn number(self) -> u32
         ensures { result ≡ number_of self }
     {
@@ -66,34 +66,17 @@ impl Refusal {
     {
         match self {
             Refusal::TooLong => LONGEST_QUESTION,
-            Refusal::Cut(at) => at,
-            Refusal::WrongCommand(at) => at,
-            Refusal::ManyFormulas(at) => at,
-            Refusal::NoSuchLetter(at) => at,
-            Refusal::ManyConnectives(at) => at,
-            Refusal::LeftOver(at) => at,
+            Refusal::Cut(at)
+            | Refusal::WrongCommand(at)
+            | Refusal::ManyFormulas(at)
+            | Refusal::NoSuchLetter(at)
+            | Refusal::ManyConnectives(at)
+            | Refusal::LeftOver(at) => at,
         }
     }
 }
 
-// An accepted question.
-#[derive(Clone, Copy)]
-pub struct Question<'a> {
-    pub bytes: &'a [u8],
-    pub ghost accepted: { reading bytes.now ≡ accepted },
-}
-
-// Where the reader is: the connectives so far, the place of the next byte, the formulas due there, and the sides whose
-// command is to come.
-#[derive(Clone, Copy)]
-pub struct Cursor {
-    pub connectives: u8,
-    pub at: usize,
-    pub due: u8,
-    pub sides: u8,
-}
-
-// The command byte of a side.
+// The command byte of a side. Commands stay bytes and have no enum: document 01's form names the match on the byte (`next`).
 pub fn head_of(side: Side) -> u8
     ensures { result ≡ code (SIDE side) }
 {
@@ -101,6 +84,24 @@ pub fn head_of(side: Side) -> u8
         Side::Left => 0x10,
         Side::Right => 0x20,
     }
+}
+
+// The byte at a place: without one the question is cut there.
+fn byte_at(q: &[u8], at: usize) -> Result<u8, Refusal>
+    ensures { MatchResult result (λ b. (at < length q.now) × (b ≡ get_or q.now at 0)) (λ r. (length q.now ≤ at) × (r ≡ Refusal.Cut at)) }
+{
+    q.get(at).copied().ok_or(Refusal::Cut(at))
+}
+
+// Where the reader is: the connectives so far, the place of the next byte, the formulas due there, and the sides whose
+// command is to come. The bytes and `Standing` stay outside: no struct with a ghost field is made by `..self`, so that each step
+// would write out all fields.
+#[derive(Clone, Copy)]
+pub struct Cursor {
+    pub connectives: u8,
+    pub at: usize,
+    pub due: u8,
+    pub sides: u8,
 }
 
 impl Cursor {
@@ -132,17 +133,14 @@ impl Cursor {
             × Onwards q.now (self.at + 1) result }
     {
         let operand = self.at + 1;
-        if q.len() <= operand {
-            return Err(Refusal::Cut(operand));
-        }
-        if LETTERS <= q[operand] {
+        let letter = byte_at(q, operand)?;
+        if LETTERS <= letter {
             return Err(Refusal::NoSuchLetter(operand));
         }
         Ok(Cursor {
-            connectives: self.connectives,
             at: operand + 1,
             due: self.due - 1,
-            sides: self.sides,
+            ..self
         })
     }
 
@@ -165,7 +163,7 @@ impl Cursor {
             connectives: self.connectives + 1,
             at: behind,
             due: if b == 2 { self.due } else { self.due + 1 },
-            sides: self.sides,
+            ..self
         })
     }
 
@@ -183,17 +181,15 @@ impl Cursor {
             return Err(Refusal::WrongCommand(at));
         }
         let count = at + 1;
-        if q.len() <= count {
-            return Err(Refusal::Cut(count));
-        }
-        if MOST_FORMULAS < q[count] {
+        let formulas = byte_at(q, count)?;
+        if MOST_FORMULAS < formulas {
             return Err(Refusal::ManyFormulas(count));
         }
         Ok(Cursor {
-            connectives: self.connectives,
             at: count + 1,
-            due: q[count],
+            due: formulas,
             sides: self.sides - 1,
+            ..self
         })
     }
 
@@ -201,13 +197,7 @@ impl Cursor {
     fn done(self, q: &[u8]) -> bool
         ensures { result ≡ done q.now self }
     {
-        if self.at < q.len() {
-            return false;
-        }
-        if self.due != 0 {
-            return false;
-        }
-        self.sides == 0
+        q.len() <= self.at && self.due == 0 && self.sides == 0
     }
 
     // Goes on by one command with its operand: what is expected and the byte give a refusal or the next cursor.
@@ -217,10 +207,7 @@ impl Cursor {
             × Onwards q.now (self.at + 1) result }
     {
         let at = self.at;
-        if q.len() <= at {
-            return Err(Refusal::Cut(at));
-        }
-        let b = q[at];
+        let b = byte_at(q, at)?;
         let expected = self.expected();
         match expected {
             Expected::Formula(_, _) => match b {
@@ -235,85 +222,11 @@ impl Cursor {
     }
 }
 
-// A walk over commands: the position of the next, and the formulas due from there on.
+// An accepted question.
 #[derive(Clone, Copy)]
-pub struct Walk {
-    pub at: usize,
-    pub due: usize,
-}
-
-// The formulas due after a connective.
-fn due_after(d: usize, b: u8) -> usize
-    requires { (d < 2 ^ 63) × (b ≡ 1 → ⊥) }
-    ensures { result ≡ due_after d b }
-{
-    if b == 2 { d } else { d + 1 }
-}
-
-// The walk up to the next letter.
-fn to_letter(q: &[u8], w: Walk) -> Walk
-    requires { (1 ≤ w.due) × (w.due ≤ length (formulas (drop w.at q.now))) }
-    ensures { Reached q.now w.at w.due result.at result.due × (get_or q.now result.at 0 ≡ code LETTER) }
-{
-    let mut i = w.at;
-    let mut due = w.due;
-    while q[i] != 1 {
-        due = due_after(due, q[i]);
-        i += 1;
-    }
-    Walk { at: i, due: due }
-}
-
-// The position behind n formulas that stand one after the other from a position on.
-pub fn skip(q: &[u8], at: usize, n: usize) -> usize
-    requires { n ≤ length (formulas (drop at q.now)) }
-    ensures { result ≡ at + bytes_all (take n (formulas (drop at q.now))) }
-{
-    let mut w = Walk { at: at, due: n };
-    while 0 < w.due {
-        let letter = to_letter(q, w);
-        w = Walk {
-            at: letter.at + 2,
-            due: letter.due - 1,
-        };
-    }
-    w.at
-}
-
-// The position behind the formula at a position.
-pub fn end_of(q: &[u8], at: usize) -> usize
-    requires { Well q.now at }
-    ensures { result ≡ end_of q.now at }
-{
-    skip(q, at, 1)
-}
-
-// A set of letters, letter k as bit k, with one more.
-pub fn marked(set: u64, k: u8) -> u64
-    requires { k < Limits.LETTERS }
-    ensures lit { result ≡ light k set }
-    ensures bits { (m : ℕ) → bit m result ≡ (bit m set || eqb m k) }
-{
-    set | 1 << k
-}
-
-// A set with the letters of n formulas that stand one after the other from a position on.
-pub fn letters(q: &[u8], at: usize, n: usize, set: u64) -> u64
-    requires { (n ≤ length (formulas (drop at q.now))) × Each Lettered (take n (formulas (drop at q.now))) }
-    ensures { Marks (take n (formulas (drop at q.now))) set result }
-{
-    let mut all = set;
-    let mut w = Walk { at: at, due: n };
-    while 0 < w.due {
-        let l = to_letter(q, w);
-        let operand = l.at + 1;
-        all = marked(all, q[operand]);
-        w = Walk {
-            at: l.at + 2,
-            due: l.due - 1,
-        };
-    }
-    all
+pub struct Question<'a> {
+    pub bytes: &'a [u8],
+    pub ghost accepted: { reading bytes.now ≡ accepted },
 }
 
 impl<'a> Question<'a> {
@@ -374,7 +287,103 @@ impl<'a> Question<'a> {
     }
 }
 
-// Which bytes of the question are the formula at a place of a side: none where it is refused or has no such place.
+// A walk over commands: the position of the next, and the formulas due from there on. It goes from letter to letter: as one
+// match for each command, spelling took 1.1 times as long.
+#[derive(Clone, Copy)]
+pub struct Walk {
+    pub at: usize,
+    pub due: usize,
+}
+
+impl Walk {
+    // Past a connective.
+    fn past_connective(self, b: u8) -> Walk
+        requires { (self.at < 2 ^ 63) × (self.due < 2 ^ 63) × (b ≡ 1 → ⊥) }
+        ensures { result ≡ record { at = self.at + 1; due = due_after self.due b } }
+    {
+        let due = if b == 2 { self.due } else { self.due + 1 };
+        Walk {
+            at: self.at + 1,
+            due,
+        }
+    }
+
+    // Past a letter with its operand.
+    fn past_letter(self) -> Walk
+        requires { (self.at < 2 ^ 63) × (1 ≤ self.due) }
+        ensures { result ≡ record { at = self.at + 2; due = self.due - 1 } }
+    {
+        Walk {
+            at: self.at + 2,
+            due: self.due - 1,
+        }
+    }
+
+    // Up to the next letter.
+    fn to_letter(self, q: &[u8]) -> Walk
+        requires { (1 ≤ self.due) × (self.due ≤ length (formulas (drop self.at q.now))) }
+        ensures { Reached q.now self.at self.due result.at result.due
+            × (get_or q.now result.at 0 ≡ code LETTER) }
+    {
+        let mut walk = self;
+        while q[walk.at] != 1 {
+            walk = walk.past_connective(q[walk.at]);
+        }
+        walk
+    }
+}
+
+// A formula is the question's bytes and a position, here and in the crates above. A struct of both with `Well` as its ghost field
+// made `gekunday_width` 1.15 to 1.20 times as slow; and with the slice from there on a walk adds up lengths where it now hands
+// a position on, which spelling and the refusals need besides.
+
+// The position behind n formulas that stand one after the other from a position on.
+pub fn skip(q: &[u8], at: usize, n: usize) -> usize
+    requires { n ≤ length (formulas (drop at q.now)) }
+    ensures { result ≡ at + bytes_all (take n (formulas (drop at q.now))) }
+{
+    let mut walk = Walk { at, due: n };
+    while 0 < walk.due {
+        walk = walk.to_letter(q).past_letter();
+    }
+    walk.at
+}
+
+// The position behind the formula at a position.
+pub fn end_of(q: &[u8], at: usize) -> usize
+    requires { Well q.now at }
+    ensures { result ≡ end_of q.now at }
+{
+    skip(q, at, 1)
+}
+
+// A set of letters, letter k as bit k, with one more.
+pub fn marked(set: u64, k: u8) -> u64
+    requires { k < Limits.LETTERS }
+    ensures lit { result ≡ light k set }
+    ensures bits { (m : ℕ) → bit m result ≡ (bit m set || eqb m k) }
+{
+    set | 1 << k
+}
+
+// A set with the letters of n formulas that stand one after the other from a position on.
+pub fn letters(q: &[u8], at: usize, n: usize, set: u64) -> u64
+    requires { (n ≤ length (formulas (drop at q.now))) × Each Lettered (take n (formulas (drop at q.now))) }
+    ensures { Marks (take n (formulas (drop at q.now))) set result }
+{
+    let mut all = set;
+    let mut walk = Walk { at, due: n };
+    while 0 < walk.due {
+        let letter = walk.to_letter(q);
+        let operand = letter.at + 1;
+        all = marked(all, q[operand]);
+        walk = letter.past_letter();
+    }
+    all
+}
+
+// Which bytes of the question are the formula at a place of a side: none where it is refused or has no such place, which is the
+// form that document 01 names.
 pub fn formula_part(q: &[u8], side: Side, place: usize) -> Part
     ensures { result ≡ formula_part q.now side place }
 {

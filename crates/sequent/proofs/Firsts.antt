@@ -1,16 +1,7 @@
 -- The first compound among names, part by part.
 -- Assumes nothing.
-use mathlib.Core.Path.{◌≡◌, refl, sym, ap, ◌∙◌}
-use mathlib.Core.Bool.{Bool, true, false}
-use mathlib.Core.List.{List, [], ◌∷◌, ◌++◌}
-use Rattle.std.specs.Prelude.{None}
-use Prim.Native.Nat.{ℕ, suc, ◌+◌, ◌-◌, ◌≤◌, ◌<◌}
-use native.Mathlib.Numerals.{add-one}
-use native.Mathlib.Omega.{arith}
-use lib.Dec.{ltb}
-use lib.ListN.{length, take, drop, get_or, length-drop, take-append-drop}
-use lib.Seq.{slice, slice-cons, slice_empty, take-add, take-take, length-take-le}
-use borrow.Author.Tests.{lt-ltb, le-ltb, ltb-true, ltb-false}
+use Rattle.std.proofs.Common.{◌≡◌, refl, sym, ap, ◌∙◌, Bool, true, false, List, [], ◌∷◌, ◌++◌, None, ℕ, suc, ◌+◌, ◌-◌, ◌≤◌, ◌<◌, add-one, arith, ltb, length, take, drop, get_or, length-drop, take-append-drop, take-add, take-take, length-take-le, le-ltb, ltb-true, ltb-false}
+use Rattle.std.proofs.Math.Seq.{slice, slice-cons, slice_empty}
 use Rattle.calculus.specs.declared.Side.TheVariants.{Left, Right}
 use Rattle.calculus.specs.Fold.{choose}
 use Rattle.calculus.specs.Limits.{ROOM, LETTERS}
@@ -26,9 +17,6 @@ module _ (l : List ℕ) (i n : ℕ) (h : i < n) (k : n ≤ length l) where
 
   pub first_here : LETTERS ≤ get_or l i 0 → first_in (slice i n l) ≡ 0
   first_here e = opened ∙ rw (le-ltb (get_or l i 0) LETTERS e)
-
-  pub first_later : get_or l i 0 < LETTERS → first_in (slice i n l) ≡ suc (first_in (slice (i + 1) n l))
-  first_later e = opened ∙ rw (lt-ltb (get_or l i 0) LETTERS e)
 
 pub first_none : (l : List ℕ) (i n : ℕ) → i ≡ n → first_in (slice i n l) ≡ 0
 first_none l i n e = rw e (ap first_in (slice_empty n l))

@@ -1,12 +1,9 @@
 -- Lists: parts of them, places that make way, elements.
 -- Assumes nothing.
-use mathlib.Core.Path.{◌≡◌, refl, ap}
-use mathlib.Core.Bool.{Bool, true, false}
-use mathlib.Core.Option.{some, none-ne-some}
-use mathlib.Core.List.{List, [], ◌∷◌, ◌++◌, map, map-append}
-use Prim.Native.Nat.{ℕ, zero, suc, ◌+◌, ◌<◌}
-use native.Mathlib.Omega.{arith}
-use lib.ListN.{length, take, drop, get_or, get_elem?, length-append, length-take, length-drop}
+use Rattle.std.proofs.Common.{◌≡◌, refl, ap, Bool, true, false, List, [], ◌∷◌, ◌++◌, map, ℕ, zero, suc, ◌+◌, ◌<◌, arith, length, take, drop, get_or, length-append, length-take, length-drop}
+use Rattle.std.proofs.Math.Option.{some, none-ne-some}
+use mathlib.Core.List.{map-append}
+use Rattle.std.proofs.Math.ListN.{get_elem?}
 use Rattle.calculus.specs.declared.Side.{Side}
 use Rattle.calculus.specs.declared.Side.TheVariants.{Left, Right}
 use Rattle.calculus.specs.Fold.{fold, SUM, Each}

@@ -1,13 +1,10 @@
 -- The letters of a side as bits: what `|` makes of them.
 -- Assumes nothing.
-use mathlib.Core.Path.{◌≡◌, refl, sym, ap, ◌∙◌}
-use mathlib.Core.Option.{some, none-ne-some}
-use mathlib.Core.List.{List, [], ◌∷◌}
-use Prim.Native.Nat.{ℕ, zero, suc, ◌+◌, ◌/◌, ◌%◌, ◌^◌, max, ◌<◌}
-use native.Mathlib.Nat.{pow-suc}
-use native.Mathlib.Omega.{arith}
-use lib.Bits.{bit_or, or_step, or_zero_l, or_comm}
-use lib.ListN.{get_elem?}
+use Rattle.std.proofs.Common.{◌≡◌, refl, sym, ap, ◌∙◌, List, [], ◌∷◌, ℕ, zero, suc, ◌+◌, ◌/◌, ◌%◌, ◌^◌, max, ◌<◌, pow-suc, arith, bit_or}
+use Rattle.std.proofs.Math.Option.{some, none-ne-some}
+use Rattle.std.proofs.lemmas.Nat.{or_shr}
+use Rattle.std.specs.Int.Bits.{or_step, or_zero_l, or_comm}
+use Rattle.std.proofs.Math.ListN.{get_elem?}
 use Rattle.calculus.specs.Fold.{Monoid, fold}
 use Rattle.calculus.specs.Syntax.{Formula, letter, neg, join}
 use Rattle.calculus.specs.Table.{splice}
@@ -16,7 +13,7 @@ use Rattle.calculus.proofs.Folds.{fold_append}
 use Rattle.calculus.proofs.Trees.{light_or}
 
 or_half : (a b : ℕ) → bit_or a b / 2 ≡ bit_or (a / 2) (b / 2)
-or_half a b = let e = or_step a b in omega (arith, e)
+or_half a b = or_shr a b 1
 
 or_odd : (a b : ℕ) → bit_or a b % 2 ≡ max (a % 2) (b % 2)
 or_odd a b = let e = or_step a b in omega (arith, e)

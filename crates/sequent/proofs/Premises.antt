@@ -1,11 +1,7 @@
 -- The premise that one pass makes, and its stores.
 -- Assumes nothing.
-use mathlib.Core.Path.{◌≡◌, refl, sym, ap, ◌∙◌}
-use mathlib.Core.List.{List, ◌++◌, append_assoc}
-use Prim.Native.Nat.{ℕ, suc, ◌+◌, ◌-◌, ◌≤◌, ◌<◌}
-use native.Mathlib.Omega.{arith}
-use lib.ListN.{length, take, drop, length-append, length-take, take-append-drop}
-use lib.Seq.{slice, length-slice, take-add, take_at, take-take, drop_at, drop-append-le, drop-drop, length-take-le}
+use Rattle.std.proofs.Common.{◌≡◌, refl, sym, ap, ◌∙◌, List, ◌++◌, append_assoc, ℕ, suc, ◌+◌, ◌-◌, ◌≤◌, ◌<◌, arith, length, take, drop, length-append, length-take, take-append-drop, take-add, take_at, take-take, drop_at, drop-drop, length-take-le}
+use Rattle.std.proofs.Math.Seq.{slice, length-slice, drop-append-le}
 use Rattle.calculus.specs.declared.Side.{Side}
 use Rattle.calculus.specs.declared.Side.TheVariants.{Left, Right}
 use Rattle.calculus.specs.Limits.{ROOM}
@@ -16,8 +12,8 @@ use Rattle.sequent.specs.Rule.{parts_on, placed}
 use Rattle.sequent.proofs.Lists.{on_left, on_right, ones}
 use Rattle.sequent.specs.declared.Pass.{Pass}
 use Rattle.sequent.specs.declared.Running.{Running}
-use Rattle.sequent.specs.View.{view, count_of, end_of, Joined}
-use Rattle.sequent.specs.Passes.{Fits, Stored, listed, Builds}
+use Rattle.sequent.specs.View.{view, count_of, Joined}
+use Rattle.sequent.specs.Passes.{Stored, listed, Builds}
 use Rattle.sequent.proofs.Passes.{pass}
 
 -- ---- parts of a list
@@ -46,13 +42,6 @@ splice_length a j e ps l h k r =
 
 pub end_length : (a e : ℕ) (ps l : List ℕ) → a ≤ e → e ≤ length l → length (slice a e l ++ ps) + a ≡ e + length ps
 end_length a e ps l h k = omega (arith, length-append (slice a e l) ps, length-slice a e l k)
-
-pub start_fits : (n : ℕ) (new : List ℕ) → length new ≡ ROOM → n ≤ ROOM → Fits (pass 0 0 0) n new
-start_fits n new e h = record { counted = omega arith; room = omega arith; size = e }
-
-pub end_inside : (t : Side) (s : Running) → s.lefts + s.rights ≤ ROOM → end_of t s ≤ ROOM
-end_inside Left s h = omega arith
-end_inside Right s h = h
 
 -- ---- what is stored from the first place on is the two sides
 

@@ -1,12 +1,7 @@
 -- The set of a side: it holds the side's compounds, and where two do not meet, no compound stands on both sides.
 -- Assumes nothing.
-use mathlib.Core.Path.{◌≡◌, refl, sym, subst, ◌∙◌}
-use mathlib.Core.Bool.{true, false≢true}
-use mathlib.Core.List.{List, [], ◌∷◌}
-use Prim.Native.Nat.{ℕ, ◌%◌, ◌≤◌}
-use lib.Bits.{bit_and, bit_or}
-use lib.Dec.{eqb}
-use borrow.Author.Tests.{le-ltb, eq-eqb}
+use Rattle.std.proofs.Common.{◌≡◌, refl, sym, subst, ◌∙◌, true, List, [], ◌∷◌, ℕ, ◌%◌, ◌≤◌, bit_and, bit_or, eqb, le-ltb, eq-eqb}
+use Rattle.std.proofs.Math.Bool.{false≢true}
 use Rattle.calculus.specs.declared.Side.{Side}
 use Rattle.calculus.specs.Fold.{Each}
 use Rattle.calculus.specs.Limits.{LETTERS}

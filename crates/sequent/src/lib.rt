@@ -3,6 +3,7 @@
 
 ghost use Rattle.std.specs.Prelude.{◌≡◌, [], ◌∷◌, ◌++◌, ◌+◌, ◌-◌, ◌%◌, ◌≤◌, ◌<◌, length};
 ghost use Rattle.std.proofs.Math.Seq.{slice};
+ghost use Rattle.calculus.specs.declared.Side.TheVariants.{Left, Right};
 ghost use Rattle.calculus.specs.Limits;
 ghost use Rattle.calculus.specs.Syntax.{Connective, size};
 ghost use Rattle.calculus.specs.Bytes.{CONNECTIVE, code};
@@ -125,7 +126,7 @@ fn rule_of(b: u8, side: Side) -> &'static [Placing]
     requires { (2 ≤ b) × (b ≤ 6) }
     ensures { (k : Connective) → code (CONNECTIVE k) ≡ b → result.now ≡ rule_of k side }
 {
-    let i = (b - 2) as usize;
+    let i = usize::from(b - 2);
     let j = match side {
         Side::Left => 0,
         Side::Right => 1,
@@ -153,8 +154,7 @@ impl Reduction {
         requires { (k : Connective) × (code (CONNECTIVE k) ≡ self.node % 256) }
         ensures { result.now ≡ rule_for self }
     {
-        let side = self.side;
-        rule_of(low(self.node), side)
+        rule_of(low(self.node), self.side)
     }
 }
 
@@ -178,10 +178,9 @@ impl Pass {
         requires { Fits self 1 new.old }
         ensures { Stored self result self.from (name ∷ []) new.old new.new }
     {
-        let to = self.to;
-        new[to] = name;
+        new[self.to] = name;
         Pass {
-            to: to + 1,
+            to: self.to + 1,
             stores: self.stores + 1,
             ..self
         }
@@ -204,8 +203,7 @@ impl Pass {
         requires { Fits self (length (parts_on side x.p x.f x.g)) new.old }
         ensures { Stored self result self.from (parts_on side x.p x.f x.g) new.old new.new }
     {
-        let p = x.p;
-        self.part(new, p.f, side, x.f).part(new, p.g, side, x.g)
+        self.part(new, x.p.f, side, x.f).part(new, x.p.g, side, x.g)
     }
 
     // The formula that makes way.
@@ -226,10 +224,7 @@ impl Pass {
 pub fn letter_bit(name: u8) -> u64
     ensures { result ≡ bit_of name }
 {
-    if name < LETTERS {
-        return 1u64 << name;
-    }
-    0
+    if name < LETTERS { 1u64 << name } else { 0 }
 }
 
 // The bit of a compound; none for a letter.
@@ -237,12 +232,20 @@ pub fn compound_bit(name: u8) -> u64
     ensures { result ≡ compound_bit name }
 {
     if name < LETTERS {
-        return 0;
+        0
+    } else {
+        1u64 << (name % 64)
     }
-    1u64 << (name % 64)
 }
 
 // ---- the running sequent
+
+// The first place of a name.
+fn place_of(names: &[u8], name: u8) -> Option<usize>
+    ensures { Stands names.now name result }
+{
+    names.iter().position(|x| *x == name)
+}
 
 impl Running {
     pub fn count(self, side: Side) -> usize
@@ -352,23 +355,24 @@ impl Running {
     fn joined(self, lefts: usize, rights: usize, x: Parts) -> Running
         ensures { Joined lefts rights x.p x.f x.g self result }
     {
-        let p = x.p;
         Running {
             lefts,
             rights,
             ..self
         }
-        .with(p.f, x.f)
-        .with(p.g, x.g)
+        .with(x.p.f, x.f)
+        .with(x.p.g, x.g)
     }
-}
 
-impl Running {
     // The parts of the reduced side take the place, the others go to the end of their side.
     fn build(self, old: &[u8; 80], new: &mut [u8; 80], side: Side, at: usize, x: Parts) -> Built
         requires { (at < count_of side self)
             × (self.lefts + self.rights ≤ Limits.ROOM)
-            × (size (premise side at (view self old.now) (placed x.p x.f x.g)) ≤ Limits.ROOM) }
+            × (self.lefts
+            + self.rights
+            + length (parts_on Left x.p x.f x.g)
+            + length (parts_on Right x.p x.f x.g)
+            ≤ Limits.ROOM + 1) }
         ensures { Builds side at x.p x.f x.g self old.now new.old new.new result }
     {
         let n = self.lefts + self.rights;
@@ -377,12 +381,11 @@ impl Running {
             to: 0,
             stores: 0,
         };
-        let lefts = self.lefts;
         match side {
             Side::Left => {
                 let l = self.replace(start, old, new, Side::Left, at, x);
                 let e = self.append(l, old, new, Side::Right, x);
-                let k = l.to + (lefts - l.from);
+                let k = l.to + (self.lefts - l.from);
                 Built {
                     running: self.joined(k, e.to - k, x),
                     stores: e.stores,
@@ -400,9 +403,7 @@ impl Running {
             }
         }
     }
-}
 
-impl Running {
     // A premise of a reduction: the names of its two parts go where p says.
     pub fn premise(self, old: &[u8; 80], new: &mut [u8; 80], r: Reduction, p: Placing) -> Built
         requires { (r.at < count_of r.side self)
@@ -422,21 +423,11 @@ impl Running {
             new.new
             result }
     {
-        let side = r.side;
         let f = low(r.node / 256);
         let g = low(r.node / 65536);
-        self.build(old, new, side, r.at, Parts { p, f, g })
+        self.build(old, new, r.side, r.at, Parts { p, f, g })
     }
-}
 
-// The first place of a name.
-fn place_of(names: &[u8], name: u8) -> Option<usize>
-    ensures { Stands names.now name result }
-{
-    names.iter().position(|x| *x == name)
-}
-
-impl Running {
     // The first formula with a connective, the left side before the right, where there is none before a place of the list.
     pub fn first_compound(self, items: &[u8; 80], from: usize) -> Option<Place>
         requires { (self.lefts + self.rights ≤ Limits.ROOM) × Clear from items.now self }

@@ -15,7 +15,7 @@ use Rattle.calculus.specs.declared.Side.{Side}
 use Rattle.calculus.specs.declared.Side.TheVariants.{Left, Right}
 use Rattle.calculus.specs.Limits.{LIMITS, LONGEST, NO_SPACE}
 use Rattle.calculus.specs.Syntax.{Formula, Sequent}
-use Rattle.calculus.specs.Bytes.{SIDE, code, encode, encode_side, bytes_all, question}
+use Rattle.calculus.specs.Bytes.{encode, encode_side, bytes_all, question}
 use Rattle.calculus.specs.Reading.{accepted, reading}
 use Rattle.calculus.specs.Truth.{truth, Valid}
 use Rattle.calculus.specs.Standard.{arranged, standard, spelling}
@@ -25,6 +25,7 @@ use Rattle.calculus.proofs.Buffers.{no_room, room}
 use Rattle.calculus.proofs.Standard.{standard_ascends, standard_sets, standard_truth, standard_valid, spelling_question, spelling_itself, spelling_alike, spelling_accepted}
 use Rattle.question.specs.declared.Question.{Question}
 use Rattle.question.proofs.Questions.{side_inside}
+use Rattle.spelling.specs.Sides.{side_bytes}
 use Rattle.spelling.specs.Answers.{Spells}
 use Rattle.spelling.proofs.Writes.{counted, spelled}
 
@@ -46,17 +47,17 @@ spells q a =
 -- ---- both sides as they are entered
 
 -- a side's bytes, counted and written
-pub side_bytes : (fs : List (Bor (List ℕ))) (xs : List Formula) → map (λ f. f.now) fs ≡ map encode xs → sum_by (λ f. length f.now) fs ≡ bytes_all xs
-side_bytes fs xs h = counted fs ∙ (ap (λ (ls : List (List ℕ)). length (concat ls)) h ∙ ap length (spelled xs))
+pub side_length : (fs : List (Bor (List ℕ))) (xs : List Formula) → map (λ f. f.now) fs ≡ map encode xs → sum_by (λ f. length f.now) fs ≡ bytes_all xs
+side_length fs xs h = counted fs ∙ (ap (λ (ls : List (List ℕ)). length (concat ls)) h ∙ ap length (spelled xs))
 
 pub side_written : (s : Side) (fs : List (Bor (List ℕ))) (xs : List Formula) → map (λ f. f.now) fs ≡ map encode xs
-    → code (SIDE s) ∷ length fs ∷ concat (map (λ f. f.now) fs) ≡ encode_side s xs
+    → side_bytes s fs ≡ encode_side s xs
 side_written s fs xs h =
     let n : length fs ≡ length xs = sym (length-map fs (λ f. f.now)) ∙ (ap length h ∙ length-map xs encode) in
     rw (n, h, spelled xs)
 
 -- B written behind A
-behind : (A B old mid new : List ℕ) (at : ℕ) → length A + length B ≤ length old → at ≡ length A → mid ≡ A ++ drop (length A) old
+pub behind : (A B old mid new : List ℕ) (at : ℕ) → length A + length B ≤ length old → at ≡ length A → mid ≡ A ++ drop (length A) old
     → new ≡ B ++ drop (length B) (mid_of at (length mid - at) mid)
     → put_mid at (length mid - at) mid new ≡ (A ++ B) ++ drop (length (A ++ B)) old
 behind A B old mid new at r e f g =
@@ -87,41 +88,36 @@ entered b q e ls rs l m r n =
 pub left_small : (q : List ℕ) → reading q ≡ accepted → 4 + bytes_all (question q).on_left ≤ LONGEST
 left_small q a = omega (arith, (side_inside q a Right).1, ((exactly_under LIMITS q).0 a).0)
 
+-- both sides, counted
+pub both_length : (ls rs : List (Bor (List ℕ))) → 4 + sum_by (λ f. length f.now) ls + sum_by (λ f. length f.now) rs ≡ length (side_bytes Left ls ++ side_bytes Right rs)
+both_length ls rs = omega (arith, counted ls, counted rs, length-append (side_bytes Left ls) (side_bytes Right rs))
+
 module _ (q : List ℕ) (ls rs : List (Bor (List ℕ))) (s : Entered q ls rs) where
-  pub total : 4 + sum_by (λ f. length f.now) ls + sum_by (λ f. length f.now) rs ≡ length (spelling (question q))
-  total =
-      let A = arranged (question q).on_left in
-      let B = arranged (question q).on_right in
-      omega (arith, side_bytes ls A s.lefts, side_bytes rs B s.rights, length-append (encode_side Left A) (encode_side Right B))
+  pub both_spelled : side_bytes Left ls ++ side_bytes Right rs ≡ spelling (question q)
+  both_spelled =
+      let l = side_written Left ls (arranged (question q).on_left) s.lefts in
+      let r = side_written Right rs (arranged (question q).on_right) s.rights in
+      ap (λ (bs : List ℕ). bs ++ side_bytes Right rs) l ∙ ap (λ (bs : List ℕ). encode_side Left (arranged (question q).on_left) ++ bs) r
 
-  pub small : length (spelling (question q)) ≤ LONGEST
-  small = omega (arith, (spelling_accepted LIMITS q s.accept).1, ((exactly_under LIMITS q).0 s.accept).0)
+  pub small : 4 + sum_by (λ f. length f.now) ls + sum_by (λ f. length f.now) rs ≤ LONGEST
+  small = omega (arith, both_length ls rs, ap length both_spelled, (spelling_accepted LIMITS q s.accept).1, ((exactly_under LIMITS q).0 s.accept).0)
 
-  -- the right side behind the left one
-  pub both_written : (old mid new : List ℕ) (at : ℕ) → length (spelling (question q)) ≤ length old
-      → (let A = code (SIDE Left) ∷ length ls ∷ concat (map (λ f. f.now) ls) in (at ≡ length A) × (mid ≡ A ++ drop (length A) old))
-      → (let B = code (SIDE Right) ∷ length rs ∷ concat (map (λ f. f.now) rs) in new ≡ B ++ drop (length B) (mid_of at (length mid - at) mid))
-      → put_mid at (length mid - at) mid new ≡ spelling (question q) ++ drop (length (spelling (question q))) old
-  both_written old mid new at r f g =
-      let A = encode_side Left (arranged (question q).on_left) in
-      let B = encode_side Right (arranged (question q).on_right) in
-      let ea = side_written Left ls (arranged (question q).on_left) s.lefts in
-      let eb = side_written Right rs (arranged (question q).on_right) s.rights in
-      behind A B old mid new at (omega (arith, r, length-append A B)) (f.0 ∙ ap length ea) (f.1 ∙ ap (λ (l : List ℕ). l ++ drop (length l) old) ea)
-      (g ∙ ap (λ (l : List ℕ). l ++ drop (length l) (mid_of at (length mid - at) mid)) eb)
+-- the answers, n bytes being both sides'
+module _ (q old : List ℕ) (ls rs : List (Bor (List ℕ))) (s : Entered q ls rs) (n : ℕ) (count : n ≡ length (side_bytes Left ls ++ side_bytes Right rs)) where
+  filled : spell q old ≡ fill_out (side_bytes Left ls ++ side_bytes Right rs) [] old
+  filled =
+      let read : spell q old ≡ fill_out (spelling (question q)) [] old = rw s.accept in
+      read ∙ ap (λ (bs : List ℕ). fill_out bs [] old) (sym (both_spelled q ls rs s))
 
-module _ (q old : List ℕ) (a : reading q ≡ accepted) (k : ℕ) (count : k ≡ length (spelling (question q))) where
-  filled : spell q old ≡ fill_out (spelling (question q)) [] old
-  filled = rw a
+  pub short_answer : length old < n → unwritten NO_SPACE (n ∷ []) old ≡ spell q old
+  short_answer l = rw count (sym (filled ∙ no_room (side_bytes Left ls ++ side_bytes Right rs) [] old (rw (← count) l)))
 
-  pub short_reply : length old < k → unwritten NO_SPACE (k ∷ []) old ≡ spell q old
-  short_reply l = rw count (sym (filled ∙ no_room (spelling (question q)) [] old (rw (← count) l)))
+  pub spelled_answer : n ≤ length old
+      → record { reply = record { number = 0; values = n ∷ [] }; buffer = (side_bytes Left ls ++ side_bytes Right rs) ++ drop n old } ≡ spell q old
+  spelled_answer l = rw count (sym (filled ∙ room (side_bytes Left ls ++ side_bytes Right rs) [] old (rw (← count) l)))
 
-  pub spelled_reply : k ≤ length old
-      → record { reply = record { number = 0; values = k ∷ [] }; buffer = spelling (question q) ++ drop (length (spelling (question q))) old } ≡ spell q old
-  spelled_reply l = rw count (sym (filled ∙ room (spelling (question q)) [] old (rw (← count) l)))
-
-  pub spelled_one : (new : List ℕ) → new ≡ spelling (question q) ++ drop (length (spelling (question q))) old → Spells q (take k new)
+  pub spelled_one : (new : List ℕ) → new ≡ (side_bytes Left ls ++ side_bytes Right rs) ++ drop n old → Spells q (take n new)
   spelled_one new e =
-      let t : take k new ≡ spelling (question q) = rw e (take_at (spelling (question q)) (drop (length (spelling (question q))) old) k (sym count)) in
-      rw t (spells q a)
+      let bs = side_bytes Left ls ++ side_bytes Right rs in
+      let t : take n new ≡ spelling (question q) = rw e (take_at bs (drop n old) n (sym count)) ∙ both_spelled q ls rs s in
+      rw t (spells q s.accept)

@@ -1,12 +1,12 @@
 -- The bytes of a derivation, stored one after the other.
 -- Assumes nothing.
 use mathlib.Core.Path.{◌≡◌, refl, sym, ap, ◌∙◌, subst}
-use mathlib.Core.List.{List, [], ◌∷◌, ◌++◌, map}
-use Prim.Native.Nat.{ℕ, ◌+◌, ◌^◌, ◌≤◌, ◌<◌}
-use native.Mathlib.Numerals.{add-one}
+use mathlib.Core.List.{List, [], ◌∷◌, ◌++◌, map, append-nil}
+use Prim.Native.Nat.{ℕ, ◌+◌, ◌-◌, ◌*◌, ◌^◌, ◌≤◌, ◌<◌}
+use native.Mathlib.Nat.{zero-add}
 use native.Mathlib.Omega.{arith}
-use lib.ListN.{length, drop, set, length-append}
-use lib.Seq.{sets, length-sets}
+use lib.ListN.{length, take, drop, get_or, length-append, length-drop}
+use lib.Seq.{sets, sets-eq, length-sets}
 use Rattle.calculus.specs.declared.Side.{Side}
 use Rattle.calculus.specs.declared.Kind.{Kind}
 use Rattle.calculus.specs.declared.Kind.TheVariants.{Theorem, Refuted, Spent, Full}
@@ -16,30 +16,43 @@ use Rattle.calculus.specs.Syntax.{Compound, Sequent, size}
 use Rattle.calculus.specs.Table.{premises}
 use Rattle.calculus.specs.Tree.{letters, state, Way, lettered, Step, closed, opened, full, reduced, step, Event, close, reduce, Tree, follow, chain, under, grow, tree, Inner, is_closed, is_open, is_full, is_spent, is_due, afford, inner}
 use Rattle.calculus.specs.Derivation.{REDUCE, order_code, written, written_all, derivation}
-use Rattle.calculus.proofs.Buffers.{sets_append}
+use Rattle.calculus.proofs.Buffers.{sets_append, sets_start}
 use Rattle.calculus.proofs.Derivations.{written_all_append}
 use Rattle.calculus.proofs.Trees.{tree_grows, right_step, bit_state}
 use Rattle.prover.proofs.Closings.{bit_below}
 use Rattle.sequent.specs.declared.Placing.{Placing}
-use Rattle.sequent.specs.declared.Rule.{Rule}
-use Rattle.sequent.specs.Rule.{placings}
+use Rattle.sequent.specs.declared.Running.{Running}
+use Rattle.sequent.specs.View.{view, sequent_of}
+use Rattle.sequent.specs.Compounds.{FoundAt, compound_at, rule_for, premises_at, premise_by, Makes}
 use Rattle.sequent.proofs.Lists.{each_unmap}
-use Rattle.sequent.proofs.Placings.{OneOrTwo, next_ends, next_each, Summed, sum_starts, sum_goes, sum_ends}
+use Rattle.sequent.proofs.Placings.{nowhere, next, next_ends, Summed, sum_starts, sum_goes, sum_ends}
+use Rattle.sequent.proofs.Goods.{premises_made, few, makes_next}
+use Rattle.calculus.proofs.Folds.{each_at}
+use Rattle.std.proofs.lemmas.List.{append_assoc, take_rest, drop-drop, drop_all}
 use Rattle.sequent.specs.declared.Reduction.{Reduction}
 use Rattle.prover.specs.declared.Finding.{Finding}
 use Rattle.prover.specs.declared.Finding.TheVariants.{Closed, Paired, Open, Full as FullFound, Spent as SpentFound, Reduce}
-use Rattle.prover.specs.Inner.{inner_of}
+use Rattle.prover.specs.Inner.{inner_of, Stepped, First}
 use Rattle.calculus.specs.Syntax.{Seq}
 use Rattle.writer.specs.declared.Emitted.{Emitted}
 use Rattle.writer.specs.Emits.{Provable, derivations, Emits}
 
 -- ---- storing bytes
 
-pub sets_two : (l : List ℕ) (at a b : ℕ) → set (set l at a) (at + 1) b ≡ sets l at (a ∷ b ∷ [])
-sets_two l at a b = ap (λ (k : ℕ). set (set l at a) k b) (add-one at)
+-- the part from a place on
+pub part_long : (l : List ℕ) (i n : ℕ) → i + n ≤ length l → n ≤ length (take (length l - i) (drop i l))
+part_long l i n h = rw (take_rest l i) (omega (arith, length-drop i l))
 
-pub sets_three : (l : List ℕ) (at a b d : ℕ) → set (sets l at (a ∷ b ∷ [])) (at + 2) d ≡ sets l at (a ∷ b ∷ d ∷ [])
-sets_three l at a b d = sets_append l at (a ∷ b ∷ []) (d ∷ [])
+-- what is stored at its start is stored from that place on
+pub part_sets : (l new : List ℕ) (i : ℕ) (xs : List ℕ) → i + length xs ≤ length l → new ≡ sets (take (length l - i) (drop i l)) 0 xs
+    → take i l ++ (new ++ drop (length l - i) (drop i l)) ≡ sets l i xs
+part_sets l new i xs h e =
+    let part = take_rest l i in
+    let end : drop (length l - i) (drop i l) ≡ [] = drop_all (length l - i) (drop i l) (omega (arith, length-drop i l)) in
+    let k : length xs ≤ length (drop i l) = omega (arith, length-drop i l) in
+    let v : new ≡ xs ++ drop (i + length xs) l = e ∙ ap (λ (ys : List ℕ). sets ys 0 xs) part ∙ sets_start (drop i l) xs k ∙ ap (λ (ys : List ℕ). xs ++ ys) (drop-drop (length xs) i l) in
+    let w : take i l ++ (new ++ drop (length l - i) (drop i l)) ≡ take i l ++ (xs ++ drop (i + length xs) l) = rw (end, append-nil, v) in
+    w ∙ sym (sets-eq xs l i h ∙ append_assoc (take i l) xs (drop (i + length xs) l))
 
 -- ---- the tree of a theorem, by what the inner step says
 
@@ -112,60 +125,120 @@ chain_theorem (P ∷ Ps) h =
     ((f.0, r.0), ap written_all f.2 ∙ written_all_append (tree P).events (chain tree Ps).events ∙ ap (λ (bs : List ℕ). derivation P ++ bs) r.1)
 
 -- A theorem that is reduced has theorems for premises, and its derivation is the command and theirs.
-module _ (S : Sequent) (s : Side) (i : ℕ) (x : Compound) (due : is_due s i x ≡ inner 1 S) (h : (tree S).end ≡ Theorem) where
-  pub premises_provable : Each Provable (premises s i x S)
-  premises_provable = (chain_theorem (premises s i x S) (ap (λ (t : Tree). t.end) (sym (reduced_tree S s i x due)) ∙ h)).0
+module _ {T items : List ℕ} {s : Running} {r : Reduction} (w : Stepped T items s 1 (Reduce r)) (h : Provable (sequent_of T items s)) where
+  abbrev x : Compound
+  x = compound_at T r.side r.at (view s items)
 
-  pub derivation_due : derivation S ≡ order_code (REDUCE s x.connective) ∷ i ∷ derivations (premises s i x S)
-  derivation_due =
-      ap (λ (t : Tree). written_all t.events) (reduced_tree S s i x due)
-      ∙ ap (λ (bs : List ℕ). order_code (REDUCE s x.connective) ∷ i ∷ bs) (chain_theorem (premises s i x S) (ap (λ (t : Tree). t.end) (sym (reduced_tree S s i x due)) ∙ h)).1
+  grown : tree (sequent_of T items s) ≡ under (reduce r.side r.at x.connective) (chain tree (premises_at T items s r))
+  grown = reduced_tree (sequent_of T items s) r.side r.at x w.inner
 
--- a command, and what is stored behind it
-pub sets_behind : (l : List ℕ) (at a b : ℕ) (ds : List ℕ) → sets (sets l at (a ∷ b ∷ [])) (at + 2) ds ≡ sets l at (a ∷ b ∷ ds)
-sets_behind l at a b ds = sets_append l at (a ∷ b ∷ []) ds
+  chained : Each Provable (premises_at T items s r) × (written_all (chain tree (premises_at T items s r)).events ≡ derivations (premises_at T items s r))
+  chained = chain_theorem (premises_at T items s r) (ap (λ (t : Tree). t.end) (sym grown) ∙ h)
+
+  pub due_provable : Each Provable (premises_at T items s r)
+  due_provable = chained.0
+
+  pub due_derivation : derivation (sequent_of T items s) ≡ order_code (REDUCE r.side x.connective) ∷ r.at ∷ derivations (premises_at T items s r)
+  due_derivation = ap (λ (t : Tree). written_all t.events) grown ∙ ap (λ (bs : List ℕ). order_code (REDUCE r.side x.connective) ∷ r.at ∷ bs) chained.1
+
+  pub due_long : length (derivation (sequent_of T items s)) ≡ 2 + length (derivations (premises_at T items s r))
+  due_long = omega (arith, ap length due_derivation)
+
+  -- the command is stored, and the premises' derivations behind it
+  pub due_written : (out : List ℕ) → length (derivation (sequent_of T items s)) ≤ length out → (b : ℕ) → b ≡ order_code (REDUCE r.side x.connective)
+      → (n : ℕ) → n ≡ 2 → (put : List ℕ) → put ≡ sets out 0 (b ∷ r.at ∷ []) → {count : ℕ} {last : List ℕ} {e : Emitted}
+      → Emits (derivations (premises_at T items s r)) count (take (length put - n) (drop n put)) last e
+      → (n + e.length ≡ length (derivation (sequent_of T items s))) × (take n put ++ (last ++ drop (length put - n) (drop n put)) ≡ sets out 0 (derivation (sequent_of T items s)))
+  due_written out room b command n two put stored {count} {last} {e} u =
+      let ds = derivations (premises_at T items s r) in
+      let fits : n + length ds ≤ length put = omega (arith, due_long, ap length stored, length-sets out 0 (b ∷ r.at ∷ [])) in (
+        omega (arith, u.long, due_long),
+        part_sets put last n ds fits u.written ∙ ap (λ (i : ℕ). sets put i ds) two ∙ ap (λ (l : List ℕ). sets l 2 ds) stored ∙ sets_append out 0 (b ∷ r.at ∷ []) ds
+            ∙ ap (λ (k : ℕ). sets out 0 (k ∷ r.at ∷ ds)) command ∙ ap (sets out 0) (sym due_derivation),
+      )
 
 -- ---- the premises of a rule, one after the other
 
--- j premises are written, up to `end`, with n stores, and p is the next placing
-pub record Ahead (F : Placing → Sequent) (r : Rule) (old : List ℕ) (at j end n : ℕ) (new : List ℕ) (p : Placing) : Type 0 where
-  pub sum : Summed F r j n p
-  pub place : end + length (derivations (map F (drop j (placings r)))) ≡ at + length (derivations (map F (placings r)))
-  pub bytes : sets new end (derivations (map F (drop j (placings r)))) ≡ sets old at (derivations (map F (placings r)))
+-- j premises of a reduction's rule are written, in so many bytes and with n stores
+pub record Ahead (T items : List ℕ) (s : Running) (r : Reduction) (rule : List Placing) (old : List ℕ) (j bytes n : ℕ) (new : List ℕ) : Type 0 where
+  pub reduction : First T items s r
+  pub rows : rule ≡ rule_for r
+  pub provable : Each Provable (premises_at T items s r)
+  pub room : length (derivations (map (premise_by T items s r) rule)) ≤ length old
+  pub sum : Summed (premise_by T items s r) rule j n
+  pub place : bytes + length (derivations (map (premise_by T items s r) (drop j rule))) ≡ length (derivations (map (premise_by T items s r) rule))
+  pub stored : sets new bytes (derivations (map (premise_by T items s r) (drop j rule))) ≡ sets old 0 (derivations (map (premise_by T items s r) rule))
   pub long : length new ≡ length old
 
-module _ (F : Placing → Sequent) (r : Rule) (count : OneOrTwo r) (old : List ℕ) (at : ℕ) where
-  pub ahead_starts : Ahead F r old at 0 at 0 old r.first
-  ahead_starts = record { sum = sum_starts F r count; place = refl; bytes = refl; long = refl }
+pub ahead_starts : (T items : List ℕ) (s : Running) (r : Reduction) (rule : List Placing) (old : List ℕ) → First T items s r → rule ≡ rule_for r
+    → Each Provable (premises_at T items s r) → length (derivations (premises_at T items s r)) ≤ length old → Ahead T items s r rule old 0 0 0 old
+ahead_starts T items s r rule old f e p k =
+    record {
+      reduction = f;
+      rows = e;
+      provable = p;
+      room = rw (premises_made T items s f.good r f.can rule e) k;
+      sum = sum_starts (premise_by T items s r) rule;
+      place = zero-add _;
+      stored = refl;
+      long = refl;
+    }
 
-  module _ (j end n : ℕ) (new : List ℕ) (p : Placing) (a : Ahead F r old at j end n new p) where
-    pub next_provable : Each Provable (map F (placings r)) → j < r.premises → Provable (F p)
-    next_provable h k = next_each r count (λ p. Provable (F p)) (each_unmap F Provable (placings r) h) j p a.sum.next k
+module _ {T items : List ℕ} {s : Running} {r : Reduction} {rule : List Placing} {old : List ℕ} {j bytes n : ℕ} {new : List ℕ} (a : Ahead T items s r rule old j bytes n new) where
+  abbrev next_premise : Sequent
+  next_premise = premise_by T items s r (get_or rule j nowhere)
 
-    module _ (h : j < r.premises) where
-      ahead_bytes : derivations (map F (drop j (placings r))) ≡ derivation (F p) ++ derivations (map F (drop (j + 1) (placings r)))
-      ahead_bytes = ap (λ (ps : List Placing). derivations (map F ps)) (a.sum.next.next h)
+  premises_are : map (premise_by T items s r) rule ≡ premises_at T items s r
+  premises_are = premises_made T items s a.reduction.good r a.reduction.can rule a.rows
 
-      pub next_room : at + length (derivations (map F (placings r))) ≤ length old → end + length (derivation (F p)) ≤ length new
-      next_room k = omega (arith, a.place, a.long, ap length ahead_bytes, length-append (derivation (F p)) (derivations (map F (drop (j + 1) (placings r)))))
+  module _ (h : j < length rule) where
+    abbrev rest : List ℕ
+    rest = derivations (map (premise_by T items s r) (drop (j + 1) rule))
 
-      pub ahead_goes : (e : Emitted) (last : List ℕ) → Emits (derivation (F p)) (size (F p)) end new last e → size (F p) ≤ ROOM
-          → Ahead F r old at (j + 1) e.end (n + e.stores) last r.second
-      ahead_goes e last w k =
-          let rest = derivations (map F (drop (j + 1) (placings r))) in
+    ahead_bytes : derivations (map (premise_by T items s r) (drop j rule)) ≡ derivation next_premise ++ rest
+    ahead_bytes = ap (λ (ps : List Placing). derivations (map (premise_by T items s r) ps)) (next rule j h)
+
+    pub ahead_within : bytes + length (derivation next_premise) ≤ length new
+    ahead_within = omega (arith, a.place, a.long, a.room, ap length ahead_bytes, length-append (derivation next_premise) rest)
+
+    -- the next premise can be made, it is a theorem, and there is room for its derivation
+    pub ahead_next : Makes T items s r (get_or rule j nowhere) × FoundAt (view s items) r.side r.at × Provable next_premise × (length (derivation next_premise) ≤ length (take (length new - bytes) (drop bytes new)))
+    ahead_next = (
+      makes_next T items s a.reduction.good r a.reduction.can rule a.rows j h,
+      a.reduction.found,
+      each_at (λ p. Provable (premise_by T items s r p)) rule j nowhere (each_unmap (premise_by T items s r) Provable rule (subst (Each Provable) (sym premises_are) a.provable)) h,
+      part_long new bytes (length (derivation next_premise)) ahead_within,
+    )
+
+    module _ {e : Emitted} {last : List ℕ} (w : Emits (derivation next_premise) (size next_premise) (take (length new - bytes) (drop bytes new)) last e) where
+      -- what is counted fits
+      pub ahead_fits : (bytes + e.length ≤ length old) × (n + e.stores ≤ ROOM * 2)
+      ahead_fits =
+          let k = few T items s a.reduction.good r a.reduction.can rule a.rows in
+          (omega (arith, ahead_within, w.long, a.long), omega (arith, w.stores, ahead_next.0.small, a.sum.small))
+
+      pub ahead_goes : Ahead T items s r rule old (j + 1) (bytes + e.length) (n + e.stores) (take bytes new ++ (last ++ drop (length new - bytes) (drop bytes new)))
+      ahead_goes =
+          let d = derivation next_premise in
+          let v = part_sets new last bytes d ahead_within w.written in
           record {
-            sum = sum_goes F r count j n p a.sum h e.stores w.stores k;
-            place = omega (arith, a.place, w.end, ap length ahead_bytes, length-append (derivation (F p)) rest);
-            bytes = ap (λ (i : ℕ). sets last i rest) w.end ∙ ap (λ (l : List ℕ). sets l (end + length (derivation (F p))) rest) w.written ∙ sets_append new end (derivation (F p)) rest
-                ∙ ap (sets new end) (sym ahead_bytes) ∙ a.bytes;
-            long = ap length w.written ∙ length-sets new end (derivation (F p)) ∙ a.long;
+            reduction = a.reduction;
+            rows = a.rows;
+            provable = a.provable;
+            room = a.room;
+            sum = sum_goes (premise_by T items s r) rule j n a.sum h e.stores w.stores ahead_next.0.small;
+            place = omega (arith, a.place, w.long, ap length ahead_bytes, length-append d rest);
+            stored = ap (λ (i : ℕ). sets (take bytes new ++ (last ++ drop (length new - bytes) (drop bytes new))) (bytes + i) rest) w.long ∙ ap (λ (l : List ℕ). sets l (bytes + length d) rest) v ∙ sets_append new bytes d rest
+                ∙ ap (sets new bytes) (sym ahead_bytes) ∙ a.stored;
+            long = ap length v ∙ length-sets new bytes d ∙ a.long;
           }
 
-    pub ahead_ends : r.premises ≤ j → Emits (derivations (map F (placings r))) (fold SUM size (map F (placings r))) at old new (record { end = end; stores = n })
-    ahead_ends h =
-        let e = next_ends r count j h in
-        record {
-          end = omega (arith, a.place, ap (λ (ps : List Placing). length (derivations (map F ps))) e);
-          written = sym (ap (λ (ps : List Placing). sets new end (derivations (map F ps))) e) ∙ a.bytes;
-          stores = sum_ends F r count j n p a.sum h;
-        }
+  pub ahead_ends : length rule ≤ j → Emits (derivations (premises_at T items s r)) (fold SUM size (premises_at T items s r)) old new (record { length = bytes; stores = n })
+  ahead_ends h =
+      let e = next_ends rule j h in
+      rw (← premises_are)
+      (record {
+        long = omega (arith, a.place, ap (λ (ps : List Placing). length (derivations (map (premise_by T items s r) ps))) e);
+        written = sym (ap (λ (ps : List Placing). sets new bytes (derivations (map (premise_by T items s r) ps))) e) ∙ a.stored;
+        stores = sum_ends (premise_by T items s r) rule j n a.sum h;
+      })

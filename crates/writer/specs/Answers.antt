@@ -1,5 +1,5 @@
 -- The answer of the call that writes a derivation, by document 01's numbers and values, and what the buffer holds.
-use Rattle.std.specs.Prelude.{◌≡◌, List, [], ◌∷◌, ℕ, take}
+use Rattle.std.specs.Prelude.{◌≡◌, List, [], ◌∷◌, ℕ, take, Result, Ok, Err, IfOk}
 use Rattle.calculus.specs.declared.Kind.{Kind}
 use Rattle.calculus.specs.declared.Kind.TheVariants.{Theorem, Refuted, Spent, Full}
 use Rattle.calculus.specs.declared.Verdict.{Verdict}
@@ -12,8 +12,9 @@ use Rattle.calculus.specs.Derivation.{derivation, passes, checking}
 use Rattle.calculus.specs.Syntax.{Sequent}
 use Rattle.calculus.specs.Reply.{Reply, verdict_reply, write_out}
 use Rattle.question.specs.Answers.{number_of, place_of}
-use Rattle.writer.specs.declared.Writing.{Writing}
-use Rattle.writer.specs.declared.Writing.TheVariants.{Refused, NotProved, NoSpace, Written}
+use Rattle.writer.specs.declared.Written.{Written}
+use Rattle.writer.specs.declared.NotWritten.{NotWritten}
+use Rattle.writer.specs.declared.NotWritten.TheVariants.{Refused, NotProved, NoSpace}
 
 -- 8, 9 and 10 by the verdict's kind; a theorem is not among them
 abbrev pub unproved : Kind → ℕ → ℕ → Reply
@@ -22,11 +23,11 @@ unproved (Refuted σ) r k = record { number = NOT_PROVED; values = σ ∷ r ∷ 
 unproved Spent r k = verdict_reply Spent r k
 unproved Full r k = verdict_reply Full r k
 
-abbrev pub answer_of : Writing → Reply
-answer_of (Refused r) = record { number = number_of r; values = place_of r ∷ [] }
-answer_of (NotProved v) = unproved v.kind v.reductions v.closings
-answer_of (NoSpace n) = record { number = NO_SPACE; values = n ∷ [] }
-answer_of (Written n v) = record { number = 0; values = n ∷ v.reductions ∷ v.closings ∷ [] }
+abbrev pub answer_of : Result Written NotWritten → Reply
+answer_of (Ok w) = record { number = 0; values = w.length ∷ w.verdict.reductions ∷ w.verdict.closings ∷ [] }
+answer_of (Err (Refused r)) = record { number = number_of r; values = place_of r ∷ [] }
+answer_of (Err (NotProved v)) = unproved v.kind v.reductions v.closings
+answer_of (Err (NoSpace n)) = record { number = NO_SPACE; values = n ∷ [] }
 
 -- the whole tree's verdict: a theorem, with both counts, n of its closings by equal formulas
 pub record IsTheorem (S : Sequent) (v : Verdict) (n : ℕ) : Type 0 where
@@ -35,10 +36,10 @@ pub record IsTheorem (S : Sequent) (v : Verdict) (n : ℕ) : Type 0 where
   pub counts : v ≡ record { kind = Theorem; reductions = reductions (tree S).events; closings = closings (tree S).events }
 
 -- a theorem's answer, and the buffer after it, as `write_out` has them
-pub record WrittenOut (S : Sequent) (v : Verdict) (old new : List ℕ) (r : Writing) : Type 0 where
+pub record WrittenOut (S : Sequent) (v : Verdict) (old new : List ℕ) (r : Result Written NotWritten) : Type 0 where
   pub reply : answer_of r ≡ (write_out Theorem v.reductions v.closings (derivation S) old).reply
   pub buffer : new ≡ (write_out Theorem v.reductions v.closings (derivation S) old).buffer
-  pub taken : (n : ℕ) (u : Verdict) → r ≡ Written n u → (u ≡ v) × (take n new ≡ derivation S)
+  pub taken : IfOk r (λ w. (w.verdict ≡ v) × (take w.length new ≡ derivation S))
 
 -- "our derivation of a theorem passes the checker"
 pub record Evidence (q : List ℕ) (bytes : List ℕ) : Type 0 where

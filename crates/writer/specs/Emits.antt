@@ -16,8 +16,8 @@ abbrev pub derivations : List Sequent → List ℕ
 derivations [] = []
 derivations (P ∷ Ps) = derivation P ++ derivations Ps
 
--- these bytes from a place of the buffer on, and so many stores made for premises
-pub record Emits (bytes : List ℕ) (count at : ℕ) (old new : List ℕ) (e : Emitted) : Type 0 where
-  pub end : e.end ≡ at + length bytes
-  pub written : new ≡ sets old at bytes
+-- these bytes at the start of what is lent, and so many stores made for premises
+pub record Emits (bytes : List ℕ) (count : ℕ) (old new : List ℕ) (e : Emitted) : Type 0 where
+  pub long : e.length ≡ length bytes
+  pub written : new ≡ sets old 0 bytes
   pub stores : e.stores ≡ count

@@ -5,14 +5,14 @@ pub reduction-r-requires : goal.reduction-r-requires
 reduction-r-requires c =
     let a = c.args in
     let h = c.requires in
-    (h.0, first_inside a.nodes.now a.items.now a.s h.0 a.side a.at h.1, first_name a.nodes.now a.items.now a.s h.0 a.side a.at h.1)
+    (h.0, first_inside a.t.nodes.now a.t.items.now a.s h.0 a.p.side a.p.at h.1, first_name a.t.nodes.now a.t.items.now a.s h.0 a.p.side a.p.at h.1)
 
 pub overfull-requires : goal.overfull-requires
 overfull-requires c =
     let a = c.args in
     let h = c.requires in
     let r = c.reduction-r in
-    (h.0.room, first_command a.nodes.now a.items.now a.s h.0 a.side a.at h.1 r.result r.ensures)
+    (h.0.room, first_command a.t.nodes.now a.t.items.now a.s h.0 a.p.side a.p.at h.1 r.result r.ensures)
 
 pub returns-then-overfull : goal.returns-then-overfull
 returns-then-overfull c =
@@ -20,7 +20,7 @@ returns-then-overfull c =
     let h = c.requires in
     let r = c.reduction-r in
     let o = c.overfull in
-    (due_full a.nodes.now a.items.now a.s h.0 a.side a.at h.1 r.result r.ensures o.result o.ensures a.left c.if-overfull.true, tt)
+    (due_full a.t.nodes.now a.t.items.now a.s h.0 a.p.side a.p.at h.1 r.result r.ensures o.result o.ensures a.left c.if-overfull.true, tt)
 
 pub returns-then-left-eq0 : goal.returns-then-left-eq0
 returns-then-left-eq0 c =
@@ -28,7 +28,7 @@ returns-then-left-eq0 c =
     let h = c.requires in
     let r = c.reduction-r in
     let o = c.overfull in
-    (due_spent a.nodes.now a.items.now a.s h.0 a.side a.at h.1 r.result r.ensures o.result o.ensures a.left c.if-overfull.false c.if-left-eq0.true, tt)
+    (due_spent a.t.nodes.now a.t.items.now a.s h.0 a.p.side a.p.at h.1 r.result r.ensures o.result o.ensures a.left c.if-overfull.false c.if-left-eq0.true, tt)
 
 pub returns : goal.returns
 returns c =
@@ -36,6 +36,6 @@ returns c =
     let h = c.requires in
     let r = c.reduction-r in
     let o = c.overfull in (
-      due_reduce a.nodes.now a.items.now a.s h.0 a.side a.at h.1 r.result r.ensures o.result o.ensures a.left c.if-overfull.false c.if-left-eq0.false,
-      due_ready a.nodes.now a.items.now a.s h.0 a.side a.at h.1 r.result r.ensures o.result o.ensures a.left c.if-overfull.false c.if-left-eq0.false,
+      due_reduce a.t.nodes.now a.t.items.now a.s h.0 a.p.side a.p.at h.1 r.result r.ensures o.result o.ensures a.left c.if-overfull.false c.if-left-eq0.false,
+      due_ready a.t.nodes.now a.t.items.now a.s h.0 a.p.side a.p.at h.1 r.result r.ensures o.result o.ensures a.left c.if-overfull.false c.if-left-eq0.false,
     )

@@ -4,17 +4,18 @@ use Rattle.sequent.proofs.Goods.{masks_state}
 use Rattle.prover.proofs.Steps.{inner_due, inner_open}
 use Rattle.prover.proofs.first_due.Goals as goal
 
-pub returns-in-At : goal.returns-in-At
-returns-in-At c =
+pub returns-in-Some : goal.returns-in-Some
+returns-in-Some c =
     let a = c.args in
     let h = c.requires in
+    let p = c.in-Some.p in
     record {
-      inner = c.due_at.ensures.0 ∙ inner_due a.nodes.now a.items.now a.s h.0 a.left h.2 c.in-At.side c.in-At.at c.in-At.ensures;
+      inner = c.due_at.ensures.0 ∙ inner_due a.t.nodes.now a.t.items.now a.s h.0 a.left h.2 p.side p.at c.in-Some.ensures;
       ready = c.due_at.ensures.1;
     }
 
-pub returns-in-Nowhere : goal.returns-in-Nowhere
-returns-in-Nowhere c =
+pub returns-in-None : goal.returns-in-None
+returns-in-None c =
     let a = c.args in
     let h = c.requires in
-    record { inner = inner_open a.nodes.now a.items.now a.s h.0 a.left h.2 c.in-Nowhere.ensures a.s.leftmask (masks_state a.nodes.now a.items.now a.s h.0 Left); ready = tt }
+    record { inner = inner_open a.t.nodes.now a.t.items.now a.s h.0 a.left h.2 c.in-None.ensures a.s.leftmask (masks_state a.t.nodes.now a.t.items.now a.s h.0 Left); ready = tt }

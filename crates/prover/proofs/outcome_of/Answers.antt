@@ -8,5 +8,5 @@ run-requires c =
     let r = c.root-s.ensures in (
       r.0,
       record { inside = omega arith; letters = refl },
-      omega (arith, ap connectives_of r.1, (accepted_question c.args.q.now c.requires).0.connectives),
+      omega (arith, ap connectives_of r.1, (accepted_question c.args.q.bytes.now c.args.q.accepted).0.connectives),
     )

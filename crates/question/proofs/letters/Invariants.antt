@@ -5,8 +5,8 @@ use Rattle.calculus.specs.Bytes.{formulas}
 use Rattle.question.proofs.Marking.{Marking}
 use Rattle.question.proofs.letters.Given as goal
 
-abbrev pub invariant-loop-w : goal.invariant-loop-w
-invariant-loop-w l = Marking l.q (take l.n (formulas (drop l.at l.q))) l.set l.all l.w.at l.w.due
+abbrev pub invariant-loop-walk : goal.invariant-loop-walk
+invariant-loop-walk l = Marking l.q (take l.n (formulas (drop l.at l.q))) l.set l.all l.walk.at l.walk.due
 
-abbrev pub decreases-loop-w : goal.decreases-loop-w
-decreases-loop-w l = length l.q - l.w.at
+abbrev pub decreases-loop-walk : goal.decreases-loop-walk
+decreases-loop-walk l = length l.q - l.walk.at

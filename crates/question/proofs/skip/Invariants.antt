@@ -4,10 +4,10 @@ use Rattle.std.proofs.Common.{◌≡◌, ◌+◌, ◌-◌, ◌≤◌, length, ta
 use Rattle.calculus.specs.Bytes.{formulas, bytes_all}
 use Rattle.question.proofs.skip.Given as goal
 
-abbrev pub invariant-loop-w : goal.invariant-loop-w
-invariant-loop-w l =
-    (l.w.due ≤ length (formulas (drop l.w.at l.q)))
-    × (l.w.at + bytes_all (take l.w.due (formulas (drop l.w.at l.q))) ≡ l.at + bytes_all (take l.n (formulas (drop l.at l.q))))
+abbrev pub invariant-loop-walk : goal.invariant-loop-walk
+invariant-loop-walk l =
+    (l.walk.due ≤ length (formulas (drop l.walk.at l.q)))
+    × (l.walk.at + bytes_all (take l.walk.due (formulas (drop l.walk.at l.q))) ≡ l.at + bytes_all (take l.n (formulas (drop l.at l.q))))
 
-abbrev pub decreases-loop-w : goal.decreases-loop-w
-decreases-loop-w l = length l.q - l.w.at
+abbrev pub decreases-loop-walk : goal.decreases-loop-walk
+decreases-loop-walk l = length l.q - l.walk.at

@@ -1,26 +1,20 @@
-use Rattle.std.proofs.Common.{refl, sym}
-use Rattle.calculus.specs.Tree.{verdict_of}
-use Rattle.writer.proofs.Answering.{theorem_is, left_within, theorem_answers}
+use Rattle.std.proofs.Common.{sym}
+use Rattle.prover.proofs.Decisions.{budget_left}
+use Rattle.writer.proofs.Answering.{theorem_is, theorem_evidence}
 use Rattle.writer.proofs.derive.Goals as goal
 
 pub report-v-requires : goal.report-v-requires
-report-v-requires c =
-    let a = c.args in
-    let o = c.outcome_of-o in
-    left_within a.q.now a.budget (sym c.in-Accepted.ensures) o.result o.ensures (verdict_of a.budget o.result) refl
+report-v-requires c = budget_left c.in_ok-q.q.bytes.now c.args.budget c.outcome_of-o.result c.outcome_of-o.ensures
 
 pub write_out-requires : goal.write_out-requires
 write_out-requires c =
-    let a = c.args in
-    let v = c.report-v in
+    let q = c.in_ok-q.q in
     let o = c.outcome_of-o in
-    let h = sym c.in-Accepted.ensures in
-    (h, theorem_is a.q.now a.budget h o.result o.ensures v.result v.ensures c.in-Theorem.is)
+    theorem_is q.bytes.now c.args.budget q.accepted o.result o.ensures c.report-v.result c.report-v.ensures c.in-Theorem.is
 
-pub returns-in-Theorem-clause-evidence : goal.returns-in-Theorem-clause-evidence
-returns-in-Theorem-clause-evidence c =
-    let a = c.args in
-    let v = c.report-v in
+pub returns-clause-evidence : goal.returns-clause-evidence
+returns-clause-evidence c =
+    let q = c.in_ok-q in
     let o = c.outcome_of-o in
-    let w = c.write_out in
-    (theorem_answers a.q.now a.budget (sym c.in-Accepted.ensures) o.result o.ensures v.result v.ensures a.buffer.now _ w.result c.in-Theorem.is w.ensures).2
+    let v = c.report-v in
+    rw (← q.ensures.bytes) (theorem_evidence q.q.bytes.now c.args.budget q.q.accepted o.result o.ensures v.result v.ensures c.args.buffer.now _ c.write_out.result c.in-Theorem.is c.write_out.ensures)

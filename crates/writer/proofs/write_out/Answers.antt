@@ -1,46 +1,46 @@
-use Rattle.std.proofs.Common.{length, refl, ap, ◌∙◌, arith}
+use Rattle.std.proofs.Common.{ℕ, ◌+◌, ◌*◌, ◌^◌, ◌<◌, length, refl, ap, ◌∙◌, arith}
 use lib.Seq.{sets}
 use Rattle.calculus.specs.Bytes.{question}
 use Rattle.calculus.specs.Syntax.{Sequent}
 use Rattle.calculus.specs.Tree.{tree}
 use Rattle.calculus.specs.Derivation.{derivation}
 use Rattle.calculus.proofs.Readings.{accepted_question}
+use Rattle.calculus.specs.declared.Verdict.{Verdict}
+use Rattle.question.specs.declared.Question.{Question}
+use Rattle.writer.specs.Answers.{IsTheorem}
 use Rattle.writer.proofs.Answering.{needed, needed_small, no_space_lem, space}
 use Rattle.writer.proofs.write_out.Goals as goal
 
 -- The length of an accepted question's derivation is small.
-pub overflow_add-needed : goal.overflow_add-needed
-overflow_add-needed c =
-    let q = c.args.q.now in
-    omega (arith, needed_small (question q) c.args.v c.args.pairings c.requires.1 (accepted_question q c.requires.0).0.connectives)
+short : (q : Question) (v : Verdict) (n : ℕ) → IsTheorem (question q.bytes.now) v n → 2 * (v.reductions + v.closings) + n < 2 ^ 64
+short q v n t = omega (arith, needed_small (question q.bytes.now) v n t (accepted_question q.bytes.now q.accepted).0.connectives)
 
-pub overflow_mul-needed : goal.overflow_mul-needed
-overflow_mul-needed c =
-    let q = c.args.q.now in
-    omega (arith, needed_small (question q) c.args.v c.args.pairings c.requires.1 (accepted_question q c.requires.0).0.connectives)
+pub overflow_add-length : goal.overflow_add-length
+overflow_add-length c = omega (arith, short c.args.q c.args.v c.args.pairings c.requires)
 
-pub overflow_add-needed-2 : goal.overflow_add-needed-2
-overflow_add-needed-2 c =
-    let q = c.args.q.now in
-    omega (arith, needed_small (question q) c.args.v c.args.pairings c.requires.1 (accepted_question q c.requires.0).0.connectives)
+pub overflow_mul-length : goal.overflow_mul-length
+overflow_mul-length c = omega (arith, short c.args.q c.args.v c.args.pairings c.requires)
 
-pub returns-then-buffer-needed : goal.returns-then-buffer-needed
-returns-then-buffer-needed c = no_space_lem (question c.args.q.now) c.args.v c.args.pairings c.requires.1 c.args.buffer.now _ refl c.if-buffer-needed.true
+pub overflow_add-length-2 : goal.overflow_add-length-2
+overflow_add-length-2 c = omega (arith, short c.args.q c.args.v c.args.pairings c.requires)
+
+pub returns-then-buffer-length : goal.returns-then-buffer-length
+returns-then-buffer-length c = no_space_lem (question c.args.q.bytes.now) c.args.v c.args.pairings c.requires c.args.buffer.now _ refl c.if-buffer-length.true
 
 pub emit-requires : goal.emit-requires
 emit-requires c =
     let a = c.args in
     let r = c.root-s.ensures in
-    let long = needed (question a.q.now) a.v a.pairings c.requires.1 in (
+    let long = needed (question a.q.bytes.now) a.v a.pairings c.requires in (
       r.0,
       record { inside = omega arith; letters = refl },
-      ap (λ (P : Sequent). (tree P).end) r.1 ∙ c.requires.1.proved,
-      omega (arith, ap (λ (P : Sequent). length (derivation P)) r.1, long, c.if-buffer-needed.false),
+      ap (λ (P : Sequent). (tree P).end) r.1 ∙ c.requires.proved,
+      omega (arith, ap (λ (P : Sequent). length (derivation P)) r.1, long, c.if-buffer-length.false),
     )
 
 pub returns : goal.returns
 returns c =
     let a = c.args in
     let all = c.emit.ensures.1 ∙ ap (λ (P : Sequent). sets a.buffer.now 0 (derivation P)) c.root-s.ensures.1 in
-    let left = c.if-buffer-needed.false in
-    space (question a.q.now) a.v a.pairings c.requires.1 a.buffer.now _ _ refl (omega (arith, left)) all
+    let left = c.if-buffer-length.false in
+    space (question a.q.bytes.now) a.v a.pairings c.requires a.buffer.now _ _ refl (omega (arith, left)) all

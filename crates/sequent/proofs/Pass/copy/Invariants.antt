@@ -1,4 +1,4 @@
-use lib.Seq.{slice}
+use Rattle.std.proofs.Math.Seq.{slice}
 use Rattle.sequent.specs.Passes.{Stored}
 use Rattle.sequent.proofs.Pass.copy.Given as goal
 

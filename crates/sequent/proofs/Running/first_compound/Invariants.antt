@@ -1,5 +1,5 @@
 use Rattle.std.proofs.Common.{◌≡◌, ◌+◌}
-use lib.Seq.{slice}
+use Rattle.std.proofs.Math.Seq.{slice}
 use Rattle.sequent.specs.Compounds.{first_in}
 use Rattle.sequent.proofs.Running.first_compound.Given as goal
 
