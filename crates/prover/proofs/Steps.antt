@@ -38,18 +38,18 @@ each_within (P ∷ Ps) h =
 
 -- ---- the reduction of the first compound
 
-module _ (T items : List ℕ) (s : Running) (good : Good T items s) (t : Side) (i : ℕ) (found : FoundAt (view s items) t i) where
+module _ {T items : List ℕ} {s : Running} (good : Good T items s) (t : Side) (i : ℕ) (found : FoundAt (view s items) t i) where
   pub first_inside : i < count_of t s
   first_inside = found_inside s items good.places good.room t i found
 
   pub first_name : LETTERS ≤ name_at t i (view s items)
   first_name = rw (slot_name T items s good t i first_inside) at (found_name s items good.places good.room t i found)
 
-  pub first_command : (r : Reduction) → r ≡ reduction_at T t i (view s items) → (k : Connective) × (code (CONNECTIVE k) ≡ r.node % 256)
-  first_command r e =
+  pub first_command : {r : Reduction} → r ≡ reduction_at T t i (view s items) → (k : Connective) × (code (CONNECTIVE k) ≡ r.node % 256)
+  first_command {r} e =
       ((compound_at T t i (view s items)).connective, sym (ap (λ (u : Reduction). u.node % 256) e ∙ (compounded T items s good t i first_inside first_name).command))
 
-  module _ (r : Reduction) (e : r ≡ reduction_at T t i (view s items)) (b : Bool) (f : b ≡ overfull_of (rule_for r) (s.lefts + s.rights)) (left : ℕ) where
+  module _ {r : Reduction} (e : r ≡ reduction_at T t i (view s items)) {b : Bool} (f : b ≡ overfull_of (rule_for r) (s.lefts + s.rights)) (left : ℕ) where
     full_test : fold ANY (λ P. ltb ROOM (size P)) (premises t i (compound_at T t i (view s items)) (sequent_of T items s)) ≡ b
     full_test = full_is T items s good t i first_inside first_name r e ∙ sym f
 
@@ -93,7 +93,7 @@ module _ (T items : List ℕ) (s : Running) (good : Good T items s) (t : Side) (
 
 -- ---- the tests in their order
 
-module _ (T items : List ℕ) (s : Running) (good : Good T items s) (left : ℕ) where
+module _ {T items : List ℕ} {s : Running} (good : Good T items s) (left : ℕ) where
   pub pair_small : (i j : ℕ) → EqualAt (view s items) i j → (i < ROOM) × (j < ROOM)
   pair_small i j e = (omega (arith, e.left, held T items s good Left, good.room), omega (arith, e.right, held T items s good Right, good.room))
 
