@@ -4,7 +4,7 @@ use mathlib.Core.Path.{◌≡◌, refl, sym, ap, ◌∙◌, subst}
 use mathlib.Core.Bool.{Bool, true, false}
 use mathlib.Core.Option.{none, some}
 use mathlib.Core.List.{List, [], ◌∷◌}
-use Prim.Native.Nat.{ℕ, zero, suc, ◌+◌, ◌*◌, ◌/◌, ◌%◌, ◌^◌, ◌≤◌, ◌<◌}
+use Prim.Native.Nat.{ℕ, zero, suc, ◌+◌, ◌%◌, ◌≤◌, ◌<◌}
 use native.Mathlib.Omega.{arith}
 use lib.Dec.{ltb}
 use borrow.Author.Tests.{ltb-false}
@@ -12,7 +12,7 @@ use Rattle.calculus.specs.declared.Side.{Side}
 use Rattle.calculus.specs.declared.Side.TheVariants.{Left, Right}
 use Rattle.calculus.specs.Fold.{fold, ANY, Each, choose}
 use Rattle.calculus.specs.Limits.{ROOM, LETTERS}
-use Rattle.calculus.specs.Syntax.{AND, OR, IMPLIES, EQUIV, Connective, NOT, two, Sequent, size}
+use Rattle.calculus.specs.Syntax.{Connective, Sequent, size}
 use Rattle.calculus.specs.Bytes.{CONNECTIVE, code}
 use Rattle.calculus.specs.Table.{premises}
 use Rattle.calculus.specs.Tree.{letters, state, Way, closing, first, due, tests, full, reduced, is_closed, is_open, is_full, is_spent, is_due, afford, inner}
@@ -20,7 +20,7 @@ use Rattle.calculus.proofs.Folds.{or_false_both}
 use Rattle.sequent.specs.declared.Running.{Running}
 use Rattle.sequent.specs.declared.Reduction.{Reduction}
 use Rattle.std.specs.Prelude.{None}
-use Rattle.sequent.specs.Rule.{rule_of, premise_of, overfull_of}
+use Rattle.sequent.specs.Rule.{overfull_of}
 use Rattle.sequent.specs.View.{view, count_of, name_at, sequent_of, Good}
 use Rattle.sequent.specs.Compounds.{FoundAt, Found, EqualAt, compound_at, rule_for, reduction_at}
 use Rattle.sequent.proofs.Restarts.{found_inside, found_name}

@@ -14,8 +14,8 @@ use Rattle.calculus.specs.Fold.{fold, SUM, Each}
 use Rattle.calculus.specs.Limits.{LETTERS, ROOM}
 use Rattle.calculus.specs.Syntax.{Compound, Sequent, size}
 use Rattle.calculus.specs.Table.{premises}
-use Rattle.calculus.specs.Tree.{letters, state, Way, lettered, Step, closed, opened, full, reduced, step, Event, close, reduce, Tree, follow, chain, under, grow, tree, Inner, is_closed, is_open, is_full, is_spent, is_due, afford, inner}
-use Rattle.calculus.specs.Derivation.{REDUCE, order_code, written, written_all, derivation}
+use Rattle.calculus.specs.Tree.{letters, state, Way, lettered, Step, closed, opened, full, reduced, step, Event, reduce, Tree, follow, chain, under, grow, tree, Inner, is_closed, is_open, is_full, is_spent, is_due, afford, inner}
+use Rattle.calculus.specs.Derivation.{REDUCE, order_code, written_all, derivation}
 use Rattle.calculus.proofs.Buffers.{sets_append, sets_start}
 use Rattle.calculus.proofs.Derivations.{written_all_append}
 use Rattle.calculus.proofs.Trees.{tree_grows, right_step, bit_state}
@@ -33,7 +33,6 @@ use Rattle.sequent.specs.declared.Reduction.{Reduction}
 use Rattle.prover.specs.declared.Finding.{Finding}
 use Rattle.prover.specs.declared.Finding.TheVariants.{Closed, Paired, Open, Full as FullFound, Spent as SpentFound, Reduce}
 use Rattle.prover.specs.Inner.{inner_of, Stepped, First}
-use Rattle.calculus.specs.Syntax.{Seq}
 use Rattle.writer.specs.declared.Emitted.{Emitted}
 use Rattle.writer.specs.Emits.{Provable, derivations, Emits}
 

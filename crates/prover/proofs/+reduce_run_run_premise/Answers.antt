@@ -1,8 +1,8 @@
-use Rattle.std.proofs.Common.{◌≡◌, sym, ap, ◌∙◌, arith, rules}
+use Rattle.std.proofs.Common.{sym, ap, ◌∙◌, arith, rules}
 use Rattle.calculus.specs.Syntax.{c as connectives_of}
 use Rattle.calculus.specs.Tree.{outcome}
-use Rattle.sequent.specs.View.{view, sequent_of}
-use Rattle.sequent.specs.Compounds.{compound_at, premise_by}
+use Rattle.sequent.specs.View.{view}
+use Rattle.sequent.specs.Compounds.{compound_at}
 use Rattle.sequent.proofs.Goods.{command_made, premise_asks}
 use Rattle.prover.proofs.Premises.{made}
 use Rattle.prover.proofs.Runs.{answered, ahead_starts, ahead_makes, ahead_fits, ahead_goes, ahead_stops, ahead_ends}

@@ -1,17 +1,15 @@
-use Rattle.std.proofs.Common.{◌^◌, ◌≤◌, ◌<◌, [], ◌∷◌, length, sym, ap, ◌∙◌, arith, rules}
+use Rattle.std.proofs.Common.{◌^◌, ◌<◌, length, sym, ap, ◌∙◌, arith}
 use lib.Seq.{sets}
 use Rattle.calculus.specs.declared.Side.TheVariants.{Left}
 use Rattle.calculus.specs.Limits.{LETTERS}
 use Rattle.calculus.specs.Syntax.{Sequent, c as connectives_of}
-use Rattle.calculus.specs.Derivation.{REDUCE, order_code, derivation}
+use Rattle.calculus.specs.Derivation.{derivation}
 use Rattle.calculus.specs.Tree.{tree}
-use Rattle.calculus.proofs.Buffers.{sets_append}
 use Rattle.question.proofs.Readers.{connective_range}
 use Rattle.sequent.specs.View.{view, sequent_of}
-use Rattle.sequent.specs.Compounds.{compound_at, premises_at}
+use Rattle.sequent.specs.Compounds.{compound_at}
 use Rattle.sequent.proofs.Goods.{masks_state, command_made, place_small, premise_asks}
 use Rattle.prover.proofs.Premises.{made}
-use Rattle.writer.specs.Emits.{derivations}
 use Rattle.writer.proofs.Writes.{closed_small, no_other, due_provable, due_long, due_written, part_long, ahead_starts, ahead_within, ahead_next, ahead_fits, ahead_goes, ahead_ends}
 use Rattle.writer.proofs.+emit_emit_premise_emit_premises.Goals as goal
 
