@@ -21,6 +21,7 @@ use question::LETTERS;
 // How many formulas stand on each side, the letters of each side, a bit each, and a set that holds the compounds of each side: it
 // only grows, so it holds reduced ones too. The names of the formulas, the left side's and then the right side's, are lent beside
 // it: a letter is named by itself, a compound by its node, above the letters, and equal formulas have one name.
+// That the formulas fit the room is asked by the functions that need it: a ghost field would ask it of `count` and `start` too.
 #[derive(Clone, Copy)]
 pub struct Running {
     pub lefts: usize,
@@ -76,7 +77,8 @@ pub struct Pair {
     pub right: usize,
 }
 
-// A premise in the making: the next place of the old list, the next place of the new one, and the stores so far.
+// A premise in the making: the next place of the old list, the next place of the new one, and the stores so far. The lists stay
+// beside it: a pass that held the one it stores to could not be copied, and each step would have to lend it on.
 #[derive(Clone, Copy)]
 pub struct Pass {
     pub from: usize,
