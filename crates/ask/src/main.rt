@@ -1,17 +1,17 @@
 // Decides the question on standard input, and prints its verdict and a theorem's derivation.
 #![tactic(auto)]
 
-ghost use Rattle.std.specs.Prelude.{◌≡◌, ◌+◌, ◌*◌, ◌<◌, ◌≤◌, length, take, IfOk, string_bytes};
+ghost use Rattle.std.specs.Prelude.{◌≡◌, ◌<◌, ◌≤◌, length, IfOk, string_bytes};
 ghost use Rattle.std.specs.Io.KnownBytes.{Consumes, IsAtEnd};
 ghost use Rattle.calculus.specs.Bytes.{question};
 ghost use Rattle.calculus.specs.Derivation.{derivation};
-ghost use Rattle.calculus.specs.Reading.{reading, accepted};
 ghost use Rattle.calculus.specs.Tree.{verdict};
 ghost use Rattle.ask.specs.Output as defined;
 ghost use Rattle.ask.specs.Output.{derivation_line, verdict_text, ask_text};
 
 use calculus::{Kind, Verdict};
 use print::{Hexadecimal, Refused};
+use question::Question;
 use std::alloc::{AllocError, Global};
 use std::io;
 use std::io::Read;
@@ -27,26 +27,30 @@ const BUDGET: u64 = 1000000;
 const BUFFER: usize = 4096;
 
 // A theorem's second line: its derivation in hexadecimal, or `no space`.
-fn derivation_line(alloc: Global, q: &[u8]) -> Result<String, AllocError>
-    requires { (reading q.now ≡ accepted) × ((verdict defined.BUDGET (question q.now)).kind ≡ Kind.Theorem) }
-    ensures { IfOk result (λ s. string_bytes s ≡ derivation_line (derivation (question q.now))) }
+fn derivation_line(alloc: Global, q: Question<'_>) -> Result<String, AllocError>
+    requires { (verdict defined.BUDGET (question q.bytes.now)).kind ≡ Kind.Theorem }
+    ensures { IfOk result (λ s. string_bytes s ≡ derivation_line (derivation (question q.entry.bytes.now))) }
 {
     let mut buffer = [0u8; BUFFER];
-    let answer = writer::derive(q, BUDGET, &mut buffer);
-    match answer {
-        writer::Writing::Written(n, _) => {
-            let end = n as usize;
-            format!(in alloc; "{}\n", Hexadecimal(&buffer[..end]))
+    match writer::derive(q.bytes, BUDGET, &mut buffer) {
+        Ok(written) => {
+            let bytes = &buffer[..written.length as usize];
+            format!(in alloc; "{}\n", Hexadecimal(bytes))
         }
-        _ => String::from_str(alloc, "no space\n"),
+        Err(_) => String::from_str(alloc, "no space\n"),
     }
 }
 
-// The text for an accepted question.
-fn verdict_text(alloc: Global, q: &[u8], v: Verdict, width: u64) -> Result<String, AllocError>
-    requires { (reading q.now ≡ accepted) × (v ≡ verdict defined.BUDGET (question q.now)) }
+// The text for an accepted question, by its verdict and its width.
+fn verdict_text(
+    alloc: Global,
+    q: Question<'_>,
+    v: Verdict,
+    width: u64,
+) -> Result<String, AllocError>
+    requires { v ≡ verdict defined.BUDGET (question q.bytes.now) }
     ensures { IfOk result (λ s. string_bytes s
-        ≡ verdict_text v.kind v.reductions v.closings width (derivation (question q.now))) }
+        ≡ verdict_text v.kind v.reductions v.closings width (derivation (question q.entry.bytes.now))) }
 {
     let Verdict {
         kind,
@@ -70,10 +74,13 @@ fn verdict_text(alloc: Global, q: &[u8], v: Verdict, width: u64) -> Result<Strin
 fn text(alloc: Global, q: &[u8]) -> Result<String, AllocError>
     ensures { IfOk result (λ s. string_bytes s ≡ ask_text q.now) }
 {
-    let widths = width::width(q);
-    match widths {
-        width::Measure::Refused(r) => Refused(r).to_string(alloc),
-        width::Measure::Of(w, _) => verdict_text(alloc, q, prover::verdict_of(q, BUDGET), w),
+    match Question::read(q) {
+        Ok(question) => {
+            let verdict = prover::verdict_of(question, BUDGET);
+            let width = width::width(q).unwrap().width;
+            verdict_text(alloc, question, verdict, width)
+        }
+        Err(r) => Refused(r).to_string(alloc),
     }
 }
 

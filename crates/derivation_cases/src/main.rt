@@ -3,18 +3,19 @@
 #![tactic(auto)]
 
 use calculus::{Kind, Verdict};
+use checker::NotPassed;
 use print::{Hexadecimal, Refused};
 use std::io;
+use writer::{NotWritten, Written};
 
 const BUDGET: u64 = 1000000;
 
 // One line: what the checker answers.
 fn check(rt: &impl Print, q: &[u8], derivation: &[u8]) -> io::Result<()> {
-    let answer = checker::check(q, derivation);
-    match answer {
-        checker::Checking::Refused(r) => print!(rt; "{}", Refused(r)),
-        checker::Checking::Faulty(f) => println!(rt; "faulty {} {}", f.number(), f.place()),
-        checker::Checking::Passes => println!(rt; "passes"),
+    match checker::check(q, derivation) {
+        Ok(()) => println!(rt; "passes"),
+        Err(NotPassed::Refused(r)) => print!(rt; "{}", Refused(r)),
+        Err(NotPassed::Faulty(f)) => println!(rt; "faulty {} {}", f.number(), f.place()),
     }
 }
 
@@ -34,15 +35,15 @@ fn unproved(rt: &impl Print, v: Verdict) -> io::Result<()> {
 }
 
 // One line: what the writer answered.
-fn answer(rt: &impl Print, a: writer::Writing) -> io::Result<()> {
+fn answer(rt: &impl Print, a: Result<Written, NotWritten>) -> io::Result<()> {
     match a {
-        writer::Writing::Refused(r) => print!(rt; "{}", Refused(r)),
-        writer::Writing::NotProved(v) => unproved(rt, v),
-        writer::Writing::NoSpace(n) => println!(rt; "no space 11 {n}"),
-        writer::Writing::Written(n, v) => println!(rt;
-            "written {n} {} {}",
-            v.reductions, v.closings
+        Ok(w) => println!(rt;
+            "written {} {} {}",
+            w.length, w.verdict.reductions, w.verdict.closings
         ),
+        Err(NotWritten::Refused(r)) => print!(rt; "{}", Refused(r)),
+        Err(NotWritten::NotProved(v)) => unproved(rt, v),
+        Err(NotWritten::NoSpace(n)) => println!(rt; "no space 11 {n}"),
     }
 }
 
@@ -56,8 +57,8 @@ fn lend(rt: &impl Print, q: &[u8], budget: u64, buffer: &mut [u8]) -> io::Result
 fn derive(rt: &impl Print, q: &[u8], buffer: &mut [u8]) -> io::Result<()> {
     let a = writer::derive(q, BUDGET, buffer);
     answer(rt, a)?;
-    if let writer::Writing::Written(n, _) = a {
-        let derivation = &buffer[..n as usize];
+    if let Ok(written) = a {
+        let derivation = &buffer[..written.length as usize];
         println!(rt; "{}", Hexadecimal(derivation))?;
         check(rt, q, derivation)?;
     }

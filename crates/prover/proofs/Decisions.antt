@@ -1,6 +1,6 @@
 -- Demands 2 and 3 of the verdict that the definitions give.
 -- Assumes nothing.
-use mathlib.Core.Path.{◌≡◌, sym, ap, ◌∙◌, subst}
+use mathlib.Core.Path.{◌≡◌, sym, ap, ◌∙◌}
 use mathlib.Core.List.{List}
 use Prim.Native.Nat.{ℕ, ◌≤◌, ◌<◌}
 use native.Mathlib.Decide.{dec_lt}
@@ -11,13 +11,10 @@ use Rattle.calculus.specs.declared.Outcome.{Outcome}
 use Rattle.calculus.specs.declared.Verdict.{Verdict}
 use Rattle.calculus.specs.Syntax.{Sequent}
 use Rattle.calculus.specs.Bytes.{question}
-use Rattle.calculus.specs.Reading.{accepted, refused, reading}
+use Rattle.calculus.specs.Reading.{accepted, reading}
 use Rattle.calculus.specs.Tree.{tree, reductions, outcome, verdict}
-use Rattle.calculus.specs.Reply.{decide_reply}
 use Rattle.calculus.proofs.Bounds.{theorem_true, theorem_exactly, refuted_false, reductions_bound, closings_bound, early}
 use Rattle.calculus.proofs.Budgets.{spent_exactly, spent_verdict, whole_verdict, spend_left}
-use Rattle.question.specs.Answers.{number_of, place_of}
-use Rattle.question.specs.declared.Refusal.{Refusal}
 use Rattle.prover.specs.Answers.{Truthful, open_one, Counted, Promised}
 
 -- The verdict is Spent, or it is the tree's.

@@ -2,4 +2,5 @@
 pub mod Closings
 pub mod Steps
 pub mod Runs
+pub mod Premises
 pub mod Decisions

@@ -29,8 +29,8 @@ use Rattle.prover.specs.Inner.{inner_of, Stepped, First}
 use Rattle.prover.specs.Runs.{after, made, ended, Ran, Comes}
 
 -- what the step answers, the run does
-pub answered : (T items : List ℕ) (s : Running) (b : ℕ) (f : Finding) → Stepped T items s b f → act outcome b (sequent_of T items s) (inner_of T (view s items) f) ≡ outcome b (sequent_of T items s)
-answered T items s b f e = ap (act outcome b (sequent_of T items s)) e.inner ∙ sym (outcome_step b (sequent_of T items s))
+pub answered : {T items : List ℕ} {s : Running} {b : ℕ} {f : Finding} → Stepped T items s b f → act outcome b (sequent_of T items s) (inner_of T (view s items) f) ≡ outcome b (sequent_of T items s)
+answered {T} {items} {s} {b} e = ap (act outcome b (sequent_of T items s)) e.inner ∙ sym (outcome_step b (sequent_of T items s))
 
 -- ---- closings fit
 
@@ -79,9 +79,9 @@ pub record Ahead (T items : List ℕ) (s : Running) (r : Reduction) (rule : List
   pub among : o.pairings ≤ o.closings
   pub small : n ≤ ROOM * j
 
-pub ahead_starts : (T items : List ℕ) (s : Running) (r : Reduction) (rule : List Placing) (b : ℕ) → First T items s r → rule ≡ rule_for r → c (sequent_of T items s) ≤ CONNECTIVES
+pub ahead_starts : {T items : List ℕ} {s : Running} {r : Reduction} → First T items s r → {rule : List Placing} → rule ≡ rule_for r → c (sequent_of T items s) ≤ CONNECTIVES → (b : ℕ)
     → Ahead T items s r rule b 0 (ended Theorem b 0 0) 0
-ahead_starts T items s r rule b f e k =
+ahead_starts {T} {items} {s} {r} f {rule} e k b =
     let v = pass outcome b (map (premise_by T items s r) rule) in
     record {
       reduction = f;

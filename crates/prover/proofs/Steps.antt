@@ -4,7 +4,7 @@ use mathlib.Core.Path.{◌≡◌, refl, sym, ap, ◌∙◌, subst}
 use mathlib.Core.Bool.{Bool, true, false}
 use mathlib.Core.Option.{none, some}
 use mathlib.Core.List.{List, [], ◌∷◌}
-use Prim.Native.Nat.{ℕ, zero, suc, ◌+◌, ◌*◌, ◌/◌, ◌%◌, ◌^◌, ◌≤◌, ◌<◌}
+use Prim.Native.Nat.{ℕ, zero, suc, ◌+◌, ◌%◌, ◌≤◌, ◌<◌}
 use native.Mathlib.Omega.{arith}
 use lib.Dec.{ltb}
 use borrow.Author.Tests.{ltb-false}
@@ -12,7 +12,7 @@ use Rattle.calculus.specs.declared.Side.{Side}
 use Rattle.calculus.specs.declared.Side.TheVariants.{Left, Right}
 use Rattle.calculus.specs.Fold.{fold, ANY, Each, choose}
 use Rattle.calculus.specs.Limits.{ROOM, LETTERS}
-use Rattle.calculus.specs.Syntax.{AND, OR, IMPLIES, EQUIV, Connective, NOT, two, Sequent, size}
+use Rattle.calculus.specs.Syntax.{Connective, Sequent, size}
 use Rattle.calculus.specs.Bytes.{CONNECTIVE, code}
 use Rattle.calculus.specs.Table.{premises}
 use Rattle.calculus.specs.Tree.{letters, state, Way, closing, first, due, tests, full, reduced, is_closed, is_open, is_full, is_spent, is_due, afford, inner}
@@ -20,7 +20,7 @@ use Rattle.calculus.proofs.Folds.{or_false_both}
 use Rattle.sequent.specs.declared.Running.{Running}
 use Rattle.sequent.specs.declared.Reduction.{Reduction}
 use Rattle.std.specs.Prelude.{None}
-use Rattle.sequent.specs.Rule.{rule_of, premise_of, overfull_of}
+use Rattle.sequent.specs.Rule.{overfull_of}
 use Rattle.sequent.specs.View.{view, count_of, name_at, sequent_of, Good}
 use Rattle.sequent.specs.Compounds.{FoundAt, Found, EqualAt, compound_at, rule_for, reduction_at}
 use Rattle.sequent.proofs.Restarts.{found_inside, found_name}
@@ -38,18 +38,18 @@ each_within (P ∷ Ps) h =
 
 -- ---- the reduction of the first compound
 
-module _ (T items : List ℕ) (s : Running) (good : Good T items s) (t : Side) (i : ℕ) (found : FoundAt (view s items) t i) where
+module _ {T items : List ℕ} {s : Running} (good : Good T items s) (t : Side) (i : ℕ) (found : FoundAt (view s items) t i) where
   pub first_inside : i < count_of t s
   first_inside = found_inside s items good.places good.room t i found
 
   pub first_name : LETTERS ≤ name_at t i (view s items)
   first_name = rw (slot_name T items s good t i first_inside) at (found_name s items good.places good.room t i found)
 
-  pub first_command : (r : Reduction) → r ≡ reduction_at T t i (view s items) → (k : Connective) × (code (CONNECTIVE k) ≡ r.node % 256)
-  first_command r e =
+  pub first_command : {r : Reduction} → r ≡ reduction_at T t i (view s items) → (k : Connective) × (code (CONNECTIVE k) ≡ r.node % 256)
+  first_command {r} e =
       ((compound_at T t i (view s items)).connective, sym (ap (λ (u : Reduction). u.node % 256) e ∙ (compounded T items s good t i first_inside first_name).command))
 
-  module _ (r : Reduction) (e : r ≡ reduction_at T t i (view s items)) (b : Bool) (f : b ≡ overfull_of (rule_for r) (s.lefts + s.rights)) (left : ℕ) where
+  module _ {r : Reduction} (e : r ≡ reduction_at T t i (view s items)) {b : Bool} (f : b ≡ overfull_of (rule_for r) (s.lefts + s.rights)) (left : ℕ) where
     full_test : fold ANY (λ P. ltb ROOM (size P)) (premises t i (compound_at T t i (view s items)) (sequent_of T items s)) ≡ b
     full_test = full_is T items s good t i first_inside first_name r e ∙ sym f
 
@@ -93,7 +93,7 @@ module _ (T items : List ℕ) (s : Running) (good : Good T items s) (t : Side) (
 
 -- ---- the tests in their order
 
-module _ (T items : List ℕ) (s : Running) (good : Good T items s) (left : ℕ) where
+module _ {T items : List ℕ} {s : Running} (good : Good T items s) (left : ℕ) where
   pub pair_small : (i j : ℕ) → EqualAt (view s items) i j → (i < ROOM) × (j < ROOM)
   pair_small i j e = (omega (arith, e.left, held T items s good Left, good.room), omega (arith, e.right, held T items s good Right, good.room))
 

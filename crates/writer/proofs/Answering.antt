@@ -11,27 +11,25 @@ use lib.Seq.{sets, take_at}
 use Rattle.std.specs.Prelude.{Result, Ok, Err, IfOk}
 use Rattle.std.proofs.lemmas.Result.{IfOk-weaker}
 use Rattle.calculus.specs.declared.Kind.{Kind}
-use Rattle.calculus.specs.declared.Kind.TheVariants.{Theorem, Refuted, Spent, Full}
+use Rattle.calculus.specs.declared.Kind.TheVariants.{Theorem}
 use Rattle.calculus.specs.declared.Outcome.{Outcome}
 use Rattle.calculus.specs.declared.Verdict.{Verdict}
 use Rattle.calculus.specs.Limits.{CONNECTIVES}
 use Rattle.calculus.specs.Syntax.{Sequent, c}
 use Rattle.calculus.specs.Bytes.{question}
-use Rattle.calculus.specs.Reading.{accepted, refused, reading}
+use Rattle.calculus.specs.Reading.{accepted, reading}
 use Rattle.calculus.specs.Tree.{tree, reductions, closings, outcome, verdict_of}
 use Rattle.calculus.specs.Width.{W}
 use Rattle.calculus.specs.Derivation.{derivation, checking}
-use Rattle.calculus.specs.Reply.{derive, Written as Wrote, write_out}
+use Rattle.calculus.specs.Reply.{Written as Wrote}
 use Rattle.calculus.proofs.Bounds.{W_bound, theorem_true}
 use Rattle.calculus.proofs.Buffers.{sets_start, no_room, room}
-use Rattle.calculus.proofs.Budgets.{whole_verdict, theorem_whole, spend_whole, spend_left}
+use Rattle.calculus.proofs.Budgets.{whole_verdict, theorem_whole, spend_whole}
 use Rattle.calculus.proofs.Derivations.{derivation_length, derivation_bound, derivation_passes}
-use Rattle.question.specs.Answers.{number_of, place_of}
-use Rattle.question.specs.declared.Refusal.{Refusal}
 use Rattle.writer.specs.declared.Written.{Written}
 use Rattle.writer.specs.declared.NotWritten.{NotWritten}
 use Rattle.writer.specs.declared.NotWritten.TheVariants.{NoSpace}
-use Rattle.writer.specs.Answers.{answer_of, IsTheorem, WrittenOut, Evidence}
+use Rattle.writer.specs.Answers.{IsTheorem, WrittenOut, Evidence}
 
 -- ---- the length needed
 

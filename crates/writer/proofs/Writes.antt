@@ -14,8 +14,8 @@ use Rattle.calculus.specs.Fold.{fold, SUM, Each}
 use Rattle.calculus.specs.Limits.{LETTERS, ROOM}
 use Rattle.calculus.specs.Syntax.{Compound, Sequent, size}
 use Rattle.calculus.specs.Table.{premises}
-use Rattle.calculus.specs.Tree.{letters, state, Way, lettered, Step, closed, opened, full, reduced, step, Event, close, reduce, Tree, follow, chain, under, grow, tree, Inner, is_closed, is_open, is_full, is_spent, is_due, afford, inner}
-use Rattle.calculus.specs.Derivation.{REDUCE, order_code, written, written_all, derivation}
+use Rattle.calculus.specs.Tree.{letters, state, Way, lettered, Step, closed, opened, full, reduced, step, Event, reduce, Tree, follow, chain, under, grow, tree, Inner, is_closed, is_open, is_full, is_spent, is_due, afford, inner}
+use Rattle.calculus.specs.Derivation.{REDUCE, order_code, written_all, derivation}
 use Rattle.calculus.proofs.Buffers.{sets_append, sets_start}
 use Rattle.calculus.proofs.Derivations.{written_all_append}
 use Rattle.calculus.proofs.Trees.{tree_grows, right_step, bit_state}
@@ -33,7 +33,6 @@ use Rattle.sequent.specs.declared.Reduction.{Reduction}
 use Rattle.prover.specs.declared.Finding.{Finding}
 use Rattle.prover.specs.declared.Finding.TheVariants.{Closed, Paired, Open, Full as FullFound, Spent as SpentFound, Reduce}
 use Rattle.prover.specs.Inner.{inner_of, Stepped, First}
-use Rattle.calculus.specs.Syntax.{Seq}
 use Rattle.writer.specs.declared.Emitted.{Emitted}
 use Rattle.writer.specs.Emits.{Provable, derivations, Emits}
 
@@ -68,9 +67,6 @@ due_step (opened σ) s i x e = cc
 due_step full s i x e = cc
 due_step (reduced u j y) s i x e = cc
 
-pub derivation_closed : (S : Sequent) (w : Way) → is_closed w ≡ inner 1 S → derivation S ≡ written (close w) ++ []
-derivation_closed S w e = ap (λ (t : Tree). written_all t.events) (tree_grows S ∙ ap (grow tree S) (closed_step (step S) w (sym e)))
-
 -- The letter that closes a sequent is within the limit.
 pub closed_small : (S : Sequent) (k : ℕ) → is_closed (lettered k) ≡ inner 1 S → state (letters S.on_left) < 2 ^ LETTERS → k < LETTERS
 closed_small S k e h =
@@ -95,17 +91,17 @@ theorem_goes S h = go (step S) (ap (λ (t : Tree). t.end) (sym (tree_grows S)) �
     go (reduced s i x) e = tt
 
 -- A theorem's step is closed or reduced.
-pub no_other : {Q : Type 0} (T : List ℕ) (N : Seq ℕ) (S : Sequent) (r : Finding) → inner_of T N r ≡ inner 1 S → (tree S).end ≡ Theorem
-    → ((k : ℕ) → r ≡ Closed k → ⊥) → ((i j : ℕ) → r ≡ Paired i j → ⊥) → ((u : Reduction) → r ≡ Reduce u → ⊥) → Q
-no_other {Q} T N S r e h p q u = go r (subst Goes (sym e) (theorem_goes S h)) p q u
+pub no_other : {T items : List ℕ} {s : Running} {f : Finding} → Stepped T items s 1 f → Provable (sequent_of T items s)
+    → ((k : ℕ) → f ≡ Closed k → ⊥) → ((i j : ℕ) → f ≡ Paired i j → ⊥) → ((r : Reduction) → f ≡ Reduce r → ⊥) → ⊥
+no_other {T} {items} {s} {f} w h = go f (subst Goes (sym w.inner) (theorem_goes (sequent_of T items s) h))
   where
-    go : (r : Finding) → Goes (inner_of T N r) → ((k : ℕ) → r ≡ Closed k → ⊥) → ((i j : ℕ) → r ≡ Paired i j → ⊥) → ((u : Reduction) → r ≡ Reduce u → ⊥) → Q
-    go (Closed j) g p q u = absurd (p j refl)
-    go (Paired i j) g p q u = absurd (q i j refl)
-    go (Open σ) g p q u = absurd g
-    go FullFound g p q u = absurd g
-    go SpentFound g p q u = absurd g
-    go (Reduce r) g p q u = absurd (u r refl)
+    go : (f : Finding) → Goes (inner_of T (view s items) f) → ((k : ℕ) → f ≡ Closed k → ⊥) → ((i j : ℕ) → f ≡ Paired i j → ⊥) → ((r : Reduction) → f ≡ Reduce r → ⊥) → ⊥
+    go (Closed k) g p q u = p k refl
+    go (Paired i j) g p q u = q i j refl
+    go (Open σ) g p q u = g
+    go FullFound g p q u = g
+    go SpentFound g p q u = g
+    go (Reduce r) g p q u = u r refl
 
 reduced_tree : (S : Sequent) (s : Side) (i : ℕ) (x : Compound) → is_due s i x ≡ inner 1 S → tree S ≡ under (reduce s i x.connective) (chain tree (premises s i x S))
 reduced_tree S s i x e = tree_grows S ∙ ap (grow tree S) (due_step (step S) s i x (sym e))
@@ -170,9 +166,9 @@ pub record Ahead (T items : List ℕ) (s : Running) (r : Reduction) (rule : List
   pub stored : sets new bytes (derivations (map (premise_by T items s r) (drop j rule))) ≡ sets old 0 (derivations (map (premise_by T items s r) rule))
   pub long : length new ≡ length old
 
-pub ahead_starts : (T items : List ℕ) (s : Running) (r : Reduction) (rule : List Placing) (old : List ℕ) → First T items s r → rule ≡ rule_for r
+pub ahead_starts : {T items : List ℕ} {s : Running} {r : Reduction} → First T items s r → {rule : List Placing} → rule ≡ rule_for r → (old : List ℕ)
     → Each Provable (premises_at T items s r) → length (derivations (premises_at T items s r)) ≤ length old → Ahead T items s r rule old 0 0 0 old
-ahead_starts T items s r rule old f e p k =
+ahead_starts {T} {items} {s} {r} f {rule} e old p k =
     record {
       reduction = f;
       rows = e;

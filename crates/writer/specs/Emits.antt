@@ -1,5 +1,5 @@
 -- What the writer stores of premises, one after the other.
-use Rattle.std.specs.Prelude.{◌≡◌, List, [], ◌∷◌, ◌++◌, ℕ, ◌+◌, length}
+use Rattle.std.specs.Prelude.{◌≡◌, List, [], ◌∷◌, ◌++◌, ℕ, length}
 use Rattle.std.proofs.lemmas.List.Edits.{sets}
 use Rattle.calculus.specs.declared.Kind.TheVariants.{Theorem}
 use Rattle.calculus.specs.Syntax.{Sequent}

@@ -68,9 +68,9 @@ fn put_pair(out: &mut [u8], left: u8, right: u8) -> usize
     requires { 3 ≤ length out.old }
     ensures { (result ≡ 3) × (out.new ≡ sets out.old 0 (order_code PAIR ∷ left ∷ right ∷ [])) }
 {
-    let end = put(out, 0x42, left);
-    out[end] = right;
-    end + 1
+    put(out, 0x42, left);
+    out[2] = right;
+    3
 }
 
 // The command that reduces a connective, whose byte is b, on a side.
@@ -102,7 +102,7 @@ fn emit(t: Names<'_>, s: Running, from: usize, out: &mut [u8]) -> usize
             let n = put(out, command_of(r.side, r.command()), r.at as u8);
             n + emit_premises(t, s, r, &mut out[n..]).length
         }
-        _ => 0,
+        _ => unreachable!(),
     }
 }
 

@@ -12,8 +12,7 @@ returns-in_ok-second-in-Theorem c =
 pub returns-in-Refuted : goal.returns-in-Refuted
 returns-in-Refuted c =
     let v = c.args.v in
-    let state = c.in-Refuted.state in
-    rw (c.in-Refuted.is, ← line_alone (ascii "refuted") (state ∷ v.reductions ∷ v.closings ∷ c.args.width ∷ []) (omega arith, (omega arith, (omega arith, (omega arith, tt)))))
+    rw (c.in-Refuted.is, ← line_alone (ascii "refuted") (c.in-Refuted.state ∷ v.reductions ∷ v.closings ∷ c.args.width ∷ []) (omega arith, (omega arith, (omega arith, (omega arith, tt)))))
     c.format-in-Refuted.ensures.ok
 
 pub returns-in-Spent : goal.returns-in-Spent

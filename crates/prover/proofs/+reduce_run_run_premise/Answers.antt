@@ -1,9 +1,10 @@
-use Rattle.std.proofs.Common.{◌≡◌, sym, ap, ◌∙◌, arith, rules}
+use Rattle.std.proofs.Common.{sym, ap, ◌∙◌, arith, rules}
 use Rattle.calculus.specs.Syntax.{c as connectives_of}
 use Rattle.calculus.specs.Tree.{outcome}
-use Rattle.sequent.specs.View.{view, sequent_of}
-use Rattle.sequent.specs.Compounds.{compound_at, premise_by}
-use Rattle.sequent.proofs.Goods.{command_made, premise_asks, made_is, made_good, made_stores, made_clear}
+use Rattle.sequent.specs.View.{view}
+use Rattle.sequent.specs.Compounds.{compound_at}
+use Rattle.sequent.proofs.Goods.{command_made, premise_asks}
+use Rattle.prover.proofs.Premises.{made}
 use Rattle.prover.proofs.Runs.{answered, ahead_starts, ahead_makes, ahead_fits, ahead_goes, ahead_stops, ahead_ends}
 use Rattle.prover.proofs.+reduce_run_run_premise.Goals as goal
 
@@ -17,8 +18,7 @@ reduce-rule-rule-requires t c =
 
 pub reduce-loop-p-init : goal.reduce-loop-p-init
 reduce-loop-p-init t c =
-    let a = c.args in
-    rw c.ended-o.ensures (ahead_starts a.t.nodes.now a.t.items.now a.s a.r c.rule-rule.result.now a.left c.requires.0 c.rule-rule.ensures c.requires.1)
+    rw c.ended-o.ensures (ahead_starts c.requires.0 c.rule-rule.ensures c.requires.1 c.args.left)
 
 pub reduce-run_premise-m-requires : goal.reduce-run_premise-m-requires
 reduce-run_premise-m-requires t c =
@@ -46,9 +46,7 @@ reduce-returns-in_default t c = ahead_stops c.loop-p.invariant c.loop-p-test.tru
 -- ---- the run
 
 pub run-returns-in-Reduce : goal.run-returns-in-Reduce
-run-returns-in-Reduce t c =
-    let a = c.args in
-    c.reduce.ensures.outcome ∙ rw c.in-Reduce.is at (answered a.t.nodes.now a.t.items.now a.s a.left c.step.result c.step.ensures)
+run-returns-in-Reduce t c = c.reduce.ensures.outcome ∙ rw c.in-Reduce.is at (answered c.step.ensures)
 
 -- ---- a premise, made and run
 
@@ -59,25 +57,12 @@ run_premise-premise-made-requires t c =
 
 pub run_premise-run-outcome-requires : goal.run_premise-run-outcome-requires
 run_premise-run-outcome-requires t c =
-    let a = c.args in
     let h = c.requires in
-    let m = c.premise-made in
-    let e : connectives_of (sequent_of a.t.nodes.now m.new.new m.result.running) ≡ connectives_of (premise_by a.t.nodes.now a.t.items.now a.s a.r a.p)
-    = ap connectives_of (made_is a.t.nodes.now a.t.items.now a.s a.r a.p h.0 _ m.new.new m.result m.ensures) in (
-      omega (arith, c.decreases, e, h.0.fewer),
-      (
-        made_good a.t.nodes.now a.t.items.now a.s a.r a.p h.0 _ m.new.new m.result m.ensures,
-        rw c.start.ensures (made_clear a.t.nodes.now a.t.items.now a.s a.r a.p h.0 _ m.new.new m.result m.ensures h.1),
-        omega (arith, e, h.0.fewer, h.2),
-      ),
-    )
+    let w = made h.0 h.1 c.premise-made.ensures in
+    let e = ap connectives_of w.is in
+    (omega (arith, c.decreases, e, h.0.fewer), (w.good, rw c.start.ensures w.clear, omega (arith, e, h.0.fewer, h.2)))
 
 pub run_premise-returns : goal.run_premise-returns
 run_premise-returns t c =
-    let a = c.args in
-    let h = c.requires in
-    let m = c.premise-made in
-    record {
-      outcome = c.run-outcome.ensures ∙ ap (outcome a.left) (made_is a.t.nodes.now a.t.items.now a.s a.r a.p h.0 _ m.new.new m.result m.ensures);
-      stores = made_stores a.t.nodes.now a.t.items.now a.s a.r a.p h.0 _ m.new.new m.result m.ensures;
-    }
+    let w = made c.requires.0 c.requires.1 c.premise-made.ensures in
+    record { outcome = c.run-outcome.ensures ∙ ap (outcome c.args.left) w.is; stores = w.stores }

@@ -10,7 +10,7 @@ returns-in-Some c =
     let h = c.requires in
     let p = c.in-Some.p in
     record {
-      inner = c.due_at.ensures.0 ∙ inner_due a.t.nodes.now a.t.items.now a.s h.0 a.left h.2 p.side p.at c.in-Some.ensures;
+      inner = c.due_at.ensures.0 ∙ inner_due h.0 a.left h.2 p.side p.at c.in-Some.ensures;
       ready = c.due_at.ensures.1;
     }
 
@@ -18,4 +18,4 @@ pub returns-in-None : goal.returns-in-None
 returns-in-None c =
     let a = c.args in
     let h = c.requires in
-    record { inner = inner_open a.t.nodes.now a.t.items.now a.s h.0 a.left h.2 c.in-None.ensures a.s.leftmask (masks_state a.t.nodes.now a.t.items.now a.s h.0 Left); ready = tt }
+    record { inner = inner_open h.0 a.left h.2 c.in-None.ensures a.s.leftmask (masks_state a.t.nodes.now a.t.items.now a.s h.0 Left); ready = tt }

@@ -18,7 +18,7 @@ returns-then-shared-ne0 c =
     let m = masks_state a.t.nodes.now a.t.items.now a.s h.0 in
     let small : (a.s.leftmask < 2 ^ LETTERS) × (a.s.rightmask < 2 ^ LETTERS) = omega arith in
     let lowest = lowest_common (letters S.on_left) (letters S.on_right) a.s.leftmask a.s.rightmask (m Left) (m Right) small.0 small.1 c.if-shared-ne0.true in
-    record { inner = inner_closed a.t.nodes.now a.t.items.now a.s h.0 a.left _ (ap (λ (o : Option ℕ). either o (twins S.on_left S.on_right)) lowest); ready = tt }
+    record { inner = inner_closed h.0 a.left _ (ap (λ (o : Option ℕ). either o (twins S.on_left S.on_right)) lowest); ready = tt }
 
 -- Where the code goes on, the two sides have no letter in common.
 pub first_due-requires : goal.first_due-requires
@@ -42,6 +42,6 @@ returns-in-Some c =
     let p = c.in-Some.p in
     let found = c.in-Some.ensures in
     record {
-      inner = inner_closed a.t.nodes.now a.t.items.now a.s h.0 a.left (paired p.left p.right) (rw (apart, twins_are a.t.nodes.now a.t.items.now a.s h.0 (Some p) found));
-      ready = pair_small a.t.nodes.now a.t.items.now a.s h.0 a.left p.left p.right found.0;
+      inner = inner_closed h.0 a.left (paired p.left p.right) (rw (apart, twins_are a.t.nodes.now a.t.items.now a.s h.0 (Some p) found));
+      ready = pair_small h.0 a.left p.left p.right found.0;
     }

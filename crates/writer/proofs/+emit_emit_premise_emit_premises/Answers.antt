@@ -1,16 +1,15 @@
-use Rattle.std.proofs.Common.{◌^◌, ◌≤◌, ◌<◌, [], ◌∷◌, length, sym, ap, ◌∙◌, arith, rules}
+use Rattle.std.proofs.Common.{◌^◌, ◌<◌, length, sym, ap, ◌∙◌, arith}
 use lib.Seq.{sets}
 use Rattle.calculus.specs.declared.Side.TheVariants.{Left}
 use Rattle.calculus.specs.Limits.{LETTERS}
 use Rattle.calculus.specs.Syntax.{Sequent, c as connectives_of}
-use Rattle.calculus.specs.Derivation.{REDUCE, order_code, derivation}
+use Rattle.calculus.specs.Derivation.{derivation}
 use Rattle.calculus.specs.Tree.{tree}
-use Rattle.calculus.proofs.Buffers.{sets_append}
 use Rattle.question.proofs.Readers.{connective_range}
 use Rattle.sequent.specs.View.{view, sequent_of}
-use Rattle.sequent.specs.Compounds.{compound_at, premises_at}
-use Rattle.sequent.proofs.Goods.{masks_state, command_made, place_small, premise_asks, made_is, made_good, made_stores, made_clear}
-use Rattle.writer.specs.Emits.{derivations}
+use Rattle.sequent.specs.Compounds.{compound_at}
+use Rattle.sequent.proofs.Goods.{masks_state, command_made, place_small, premise_asks}
+use Rattle.prover.proofs.Premises.{made}
 use Rattle.writer.proofs.Writes.{closed_small, no_other, due_provable, due_long, due_written, part_long, ahead_starts, ahead_within, ahead_next, ahead_fits, ahead_goes, ahead_ends}
 use Rattle.writer.proofs.+emit_emit_premise_emit_premises.Goals as goal
 
@@ -71,12 +70,10 @@ emit-returns-in-Reduce t c =
     let command = c.command_of.ensures _ (sym (c.command.ensures ∙ command_made a.t.nodes.now a.t.items.now a.s h.0 r w.ready.can)) in
     due_written w h.2 a.out.now h.3 _ command p.result p.ensures.0 p.new.out p.ensures.1 c.emit_premises.ensures
 
-pub emit-returns-in_default : goal.emit-returns-in_default
-emit-returns-in_default t c =
-    let a = c.args in
-    let w = c.step in
+pub emit-unreachable-requires : goal.emit-unreachable-requires
+emit-unreachable-requires t c =
     let o = c.in_default in
-    no_other a.t.nodes.now (view a.s a.t.items.now) (sequent_of a.t.nodes.now a.t.items.now a.s) w.result w.ensures.inner c.requires.2 o.not-Closed o.not-Paired o.not-Reduce
+    no_other c.step.ensures c.requires.2 o.not-Closed o.not-Paired o.not-Reduce
 
 -- ---- a premise, made and written
 
@@ -87,30 +84,25 @@ emit_premise-premise-made-requires t c =
 
 pub emit_premise-emit-length-requires : goal.emit_premise-emit-length-requires
 emit_premise-emit-length-requires t c =
-    let a = c.args in
     let h = c.requires in
-    let m = c.premise-made in
-    let e = made_is a.t.nodes.now a.t.items.now a.s a.r a.p h.0 _ m.new.new m.result m.ensures in (
-      omega (arith, c.decreases, ap connectives_of e, h.0.fewer),
+    let w = made h.0 h.1 c.premise-made.ensures in (
+      omega (arith, c.decreases, ap connectives_of w.is, h.0.fewer),
       (
-        made_good a.t.nodes.now a.t.items.now a.s a.r a.p h.0 _ m.new.new m.result m.ensures,
-        rw c.start.ensures (made_clear a.t.nodes.now a.t.items.now a.s a.r a.p h.0 _ m.new.new m.result m.ensures h.1),
-        ap (λ (P : Sequent). (tree P).end) e ∙ h.2,
-        omega (arith, ap (λ (P : Sequent). length (derivation P)) e, h.3),
+        w.good,
+        rw c.start.ensures w.clear,
+        ap (λ (P : Sequent). (tree P).end) w.is ∙ h.2,
+        omega (arith, ap (λ (P : Sequent). length (derivation P)) w.is, h.3),
       ),
     )
 
 pub emit_premise-returns : goal.emit_premise-returns
 emit_premise-returns t c =
-    let a = c.args in
-    let h = c.requires in
-    let m = c.premise-made in
-    let w = c.emit-length.ensures in
-    let e = made_is a.t.nodes.now a.t.items.now a.s a.r a.p h.0 _ m.new.new m.result m.ensures in
+    let w = made c.requires.0 c.requires.1 c.premise-made.ensures in
+    let e = c.emit-length.ensures in
     record {
-      long = w.0 ∙ ap (λ (P : Sequent). length (derivation P)) e;
-      written = w.1 ∙ ap (λ (P : Sequent). sets a.out.now 0 (derivation P)) e;
-      stores = made_stores a.t.nodes.now a.t.items.now a.s a.r a.p h.0 _ m.new.new m.result m.ensures;
+      long = e.0 ∙ ap (λ (P : Sequent). length (derivation P)) w.is;
+      written = e.1 ∙ ap (λ (P : Sequent). sets c.args.out.now 0 (derivation P)) w.is;
+      stores = w.stores;
     }
 
 -- ---- the loop over the premises
@@ -123,9 +115,8 @@ emit_premises-rule-rule-requires t c =
 
 pub emit_premises-loop-p-init : goal.emit_premises-loop-p-init
 emit_premises-loop-p-init t c =
-    let a = c.args in
     let h = c.requires in
-    ahead_starts a.t.nodes.now a.t.items.now a.s a.r c.rule-rule.result.now a.out.now h.0 c.rule-rule.ensures h.1 h.2
+    ahead_starts h.0 c.rule-rule.ensures c.args.out.now h.1 h.2
 
 pub emit_premises-slice_bounds-emit_premise-count : goal.emit_premises-slice_bounds-emit_premise-count
 emit_premises-slice_bounds-emit_premise-count t c = omega (arith, ahead_within c.loop-p.invariant c.loop-p-test.true)

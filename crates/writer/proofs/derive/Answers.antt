@@ -1,4 +1,3 @@
-use Rattle.std.proofs.Common.{sym}
 use Rattle.prover.proofs.Decisions.{budget_left}
 use Rattle.writer.proofs.Answering.{theorem_is, theorem_evidence}
 use Rattle.writer.proofs.derive.Goals as goal

@@ -1,2 +1,0 @@
--- The laws behind the functions' proofs. Assumes nothing.
-pub mod Outputs
