@@ -33,7 +33,7 @@ pub enum Fault {
 }
 
 impl Fault {
-    // Its number in the documents.
+    // Its number in the documents, which the C interface hands on.
     pub fn number(self) -> u32
         ensures { result ≡ fault_number self }
     {
@@ -87,7 +87,8 @@ impl From<Fault> for NotPassed {
     }
 }
 
-// A command: close by a letter or by equal formulas, or reduce a connective, given by its own command, on a side.
+// A command: close by a letter or by equal formulas, or reduce a connective, given by its own command, the byte that a node holds, on
+// a side.
 #[derive(Clone, Copy)]
 enum Order {
     Close,
@@ -264,7 +265,8 @@ fn obey(t: Names<'_>, d: &[u8], s: Running, at: usize) -> Result<Move, Fault>
     }
 }
 
-// The derivation of one sequent, from byte `at` on: where it ends, or its first fault.
+// The derivation of one sequent, from byte `at` on: where it ends, or its first fault. A fault names its place in the whole
+// derivation, so both go along, and not the bytes from there on.
 #[cycle(walk_walk_premise_walk_premises)]
 fn walk(t: Names<'_>, d: &[u8], s: Running, at: usize) -> Result<usize, Fault>
     requires { Good t.nodes.now t.items.now s × Roomy (sequent_of t.nodes.now t.items.now s) × (at ≤ length d.now) }

@@ -99,8 +99,8 @@ pub fn decide_clauses(q: &[u8]) -> Result<ClauseVerdict, NotClauses>
     clauses::decide_clauses(q)
 }
 
-// The numbers for a run that came to no verdict, for a derivation, a list or a spelling that is not written, and for a
-// question outside the clause profile.
+// What C gets in place of an enum: the numbers for a run that came to no verdict, for a derivation, a list or a spelling that is not
+// written, and for a question outside the clause profile.
 const FULL: u32 = 8;
 
 const SPENT: u32 = 9;
@@ -117,7 +117,7 @@ const NOT_CLAUSE: u32 = 14;
 
 const MANY_POSITIVE: u32 = 15;
 
-// A number and the words beside it.
+// A number and the words beside it, as C gets them.
 #[derive(Clone, Copy)]
 struct Words {
     number: u32,
@@ -284,7 +284,7 @@ impl From<Result<ClauseVerdict, NotClauses>> for Words {
     }
 }
 
-// Where a formula's bytes start and how many they are.
+// Where a formula's bytes start and how many they are. C says a side by its number.
 fn part_of(q: &[u8], side: u32, place: usize) -> Part
     ensures { part_words result ≡ formula_words q.now side place }
 {

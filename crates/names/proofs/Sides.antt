@@ -15,13 +15,12 @@ use Rattle.calculus.specs.Limits.{FORMULAS, CONNECTIVES}
 use Rattle.calculus.specs.Syntax.{Formula, Sequent, on_side, over, connectives, size}
 use Rattle.calculus.specs.Bytes.{Lettered, Within, encode, encode_all, bytes, bytes_all, question, side_start, start_of}
 use Rattle.calculus.specs.Reading.{accepted, reading}
-use Rattle.calculus.proofs.Folds.{fold_append}
+use Rattle.calculus.proofs.Folds.{ones, fold_append}
 use Rattle.calculus.proofs.Readings.{accepted_question}
 use Rattle.question.specs.Positions.{first_of, formula_at, end_of}
 use Rattle.question.proofs.Questions.{place_formulas, place_well}
 use Rattle.sequent.specs.declared.Running.{Running}
 use Rattle.sequent.specs.View.{view, set_of, sequent_of, letters_of, compounds_of, Masked, Good}
-use Rattle.sequent.proofs.Lists.{ones}
 use Rattle.sequent.proofs.Premises.{take_drop}
 use Rattle.sequent.proofs.Sets.{members}
 use Rattle.names.specs.declared.Loaded.{Loaded}

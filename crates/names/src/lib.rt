@@ -27,7 +27,7 @@ pub struct Named {
 }
 
 // The places filled so far, the letters and the compounds of the side that is being filled, the position behind its formulas so
-// far and the number of the next node.
+// far and the number of the next node. The lists themselves are lent (no heap), so what is in use of them is counted here.
 #[derive(Clone, Copy)]
 pub struct Loaded {
     pub places: usize,
@@ -37,6 +37,7 @@ pub struct Loaded {
     pub next: usize,
 }
 
+// The node of a compound in one number, so that the search among nodes compares one word each.
 fn node(b: u8, f: u8, g: u8) -> u32
     ensures { result ≡ node b f g }
 {

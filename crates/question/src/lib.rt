@@ -245,6 +245,7 @@ impl<'a> Question<'a> {
             due: 0,
             sides: 2,
         };
+        // No index is counted: how many commands there are shows only at the end.
         while !cursor.done(q) {
             cursor = cursor.next(q)?;
         }
@@ -334,10 +335,11 @@ impl Walk {
 }
 
 // A formula is the question's bytes and a position, here and in the crates above. A struct of both with `Well` as its ghost field
-// made `gekunday_width` 1.15 to 1.20 times as slow; and with the slice from there on a walk adds up lengths where it now hands
+// made `gekunday_width` 1.06 to 1.20 times as slow; and with the slice from there on a walk adds up lengths where it now hands
 // a position on, which spelling and the refusals need besides.
 
-// The position behind n formulas that stand one after the other from a position on.
+// The position behind n formulas that stand one after the other from a position on. That so many stand there is asked, here and in
+// `letters`: a walk with this as its ghost field would prove it again at each command.
 pub fn skip(q: &[u8], at: usize, n: usize) -> usize
     requires { n ≤ length (formulas (drop at q.now)) }
     ensures { result ≡ at + bytes_all (take n (formulas (drop at q.now))) }

@@ -13,7 +13,7 @@ use Rattle.calculus.specs.Bytes.{CONNECTIVE, code}
 use Rattle.calculus.specs.Table.{premise, premises, table}
 use Rattle.calculus.specs.Tree.{letters, twins, unlike, alike, state, missing, here, later, first}
 use Rattle.calculus.specs.Derivation.{Pairs}
-use Rattle.calculus.proofs.Folds.{each, each_and, each_at}
+use Rattle.calculus.proofs.Folds.{ones, each, each_and, each_at}
 use Rattle.calculus.proofs.Sequents.{Due, Smaller, smaller}
 use Rattle.calculus.proofs.Trees.{alike_only}
 use Rattle.sequent.specs.declared.Placing.{Placing}
@@ -26,7 +26,7 @@ use Rattle.sequent.specs.Rule.{rule_of, parts_on, placed, premises_of, sided, ov
 use Rattle.sequent.specs.View.{view, count_of, mask_of, slot_of, start_of, name_at, named, sequent_of, bit_of, letters_of, Good}
 use Rattle.sequent.specs.Passes.{Builds}
 use Rattle.sequent.specs.Compounds.{first_in, Clear, FoundAt, Found, EqualAt, Paired, twins_of, compound_of, IsCompound, compound_at, rule_for, reduction_at, premises_at, premise_by, Reducible, Makes}
-use Rattle.sequent.proofs.Lists.{element, element_is, each_parts, each_premise, each_unmap, ones}
+use Rattle.sequent.proofs.Lists.{element, element_is, each_parts, each_premise, each_unmap}
 use Rattle.sequent.proofs.Rows.{rows_of, few_rows}
 use Rattle.sequent.proofs.Masks.{letter_bit, state_fold, OR}
 use Rattle.sequent.proofs.Letters.{masked_premise}

@@ -43,10 +43,6 @@ pub splice_size : {X : Type 0} (xs new : List X) (i : ℕ) → i < length xs →
 splice_size xs new i h =
     omega (arith, length-append (take i xs) (new ++ drop (suc i) xs), length-append new (drop (suc i) xs), length-take i xs, length-drop (suc i) xs)
 
-pub ones : {X : Type 0} (xs : List X) → fold SUM (λ x. 1) xs ≡ length xs
-ones [] = refl
-ones (x ∷ xs) = omega (arith, ones xs)
-
 -- ---- a fact of each element
 
 pub each_splice : {X : Type 0} (Q : X → Type 0) (i : ℕ) (new xs : List X) → Each Q new → Each Q xs → Each Q (splice i new xs)

@@ -9,7 +9,8 @@ use Rattle.calculus.specs.Syntax.{size}
 use Rattle.calculus.specs.Table.{on, splice, premise}
 use Rattle.sequent.specs.declared.Placing.{Placing}
 use Rattle.sequent.specs.Rule.{parts_on, placed}
-use Rattle.sequent.proofs.Lists.{on_left, on_right, ones}
+use Rattle.calculus.proofs.Folds.{ones}
+use Rattle.sequent.proofs.Lists.{on_left, on_right}
 use Rattle.sequent.specs.declared.Pass.{Pass}
 use Rattle.sequent.specs.declared.Running.{Running}
 use Rattle.sequent.specs.View.{view, count_of, Joined}

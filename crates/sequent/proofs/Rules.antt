@@ -12,10 +12,10 @@ use Rattle.calculus.specs.Fold.{fold, ANY}
 use Rattle.calculus.specs.Limits.{ROOM}
 use Rattle.calculus.specs.Syntax.{Formula, Compound, Seq, on_side, size}
 use Rattle.calculus.specs.Table.{Part, F, G, Put, L, R, table, fill, on, splice, premise, premises}
-use Rattle.calculus.proofs.Folds.{fold_map}
+use Rattle.calculus.proofs.Folds.{ones, fold_map}
 use Rattle.sequent.specs.declared.Placing.{Placing}
 use Rattle.sequent.specs.Rule.{goes_to, keep, parts_on, premise_of, premises_of, sided, placed, overfull_of}
-use Rattle.sequent.proofs.Lists.{on_left, on_right, ones, map_splice, splice_size}
+use Rattle.sequent.proofs.Lists.{on_left, on_right, map_splice, splice_size}
 use Rattle.sequent.specs.View.{named}
 
 -- ---- a premise by its row

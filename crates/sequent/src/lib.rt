@@ -123,7 +123,8 @@ static RULES: [[&[Placing]; 2]; 5] = [
     ],
 ];
 
-// The rule of the connective whose command is b, on a side.
+// The rule of the connective whose command is b, on a side. A node holds that byte, which picks the row as it is: an enum would be
+// made of it for this alone.
 fn rule_of(b: u8, side: Side) -> &'static [Placing]
     requires { (2 ≤ b) × (b ≤ 6) }
     ensures { (k : Connective) → code (CONNECTIVE k) ≡ b → result.now ≡ rule_of k side }
@@ -259,7 +260,8 @@ impl Running {
         }
     }
 
-    // Where the name at a place of a side stands in the list.
+    // Where the name at a place of a side stands in the list. A side and a place come as two, here and below: of all callers only
+    // the inner step has a `Place` at hand.
     pub fn slot(self, side: Side, at: usize) -> usize
         requires { (at < count_of side self) × (self.lefts + self.rights ≤ Limits.ROOM) }
         ensures { (result ≡ slot_of side at self) × (result < Limits.ROOM) }

@@ -73,7 +73,7 @@ fn put_pair(out: &mut [u8], left: u8, right: u8) -> usize
     3
 }
 
-// The command that reduces a connective, whose byte is b, on a side.
+// The command that reduces a connective, whose byte in the node is b, on a side: the derivation has that byte in it.
 fn command_of(side: Side, b: u8) -> u8
     requires { b ≤ 6 }
     ensures { (k : Connective) → code (CONNECTIVE k) ≡ b → result ≡ order_code (REDUCE side k) }
