@@ -1,6 +1,6 @@
 -- The code's connectives as those of document 01, and the bytes that are their commands.
 use Rattle.std.specs.Prelude.{◌≡◌, ℕ, Result, MatchResult}
-use Rattle.calculus.specs.Syntax.{Binary as Two, AND, OR, IMPLIES, EQUIV, Connective as Any, NOT, two}
+use Rattle.calculus.specs.Syntax.{Binary as DefinedTwo, AND, OR, IMPLIES, EQUIV, Connective as Defined, NOT, two}
 use Rattle.calculus.specs.Bytes.{CONNECTIVE, code}
 use Rattle.width.specs.declared.connective.Binary.{Binary}
 use Rattle.width.specs.declared.connective.Binary.TheVariants.{And, Or, Implies, Equiv}
@@ -8,13 +8,13 @@ use Rattle.width.specs.declared.connective.Connective.{Connective}
 use Rattle.width.specs.declared.connective.Connective.TheVariants.{Not, Two as Joins}
 use Rattle.width.specs.declared.connective.NoConnective.{NoConnective}
 
-abbrev pub binary_of : Binary → Two
+abbrev pub binary_of : Binary → DefinedTwo
 binary_of And = AND
 binary_of Or = OR
 binary_of Implies = IMPLIES
 binary_of Equiv = EQUIV
 
-abbrev pub connective_of : Connective → Any
+abbrev pub connective_of : Connective → Defined
 connective_of Not = NOT
 connective_of (Joins o) = two (binary_of o)
 
