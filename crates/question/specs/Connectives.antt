@@ -2,11 +2,11 @@
 use Rattle.std.specs.Prelude.{◌≡◌, ℕ, Result, MatchResult}
 use Rattle.calculus.specs.Syntax.{Binary as Two, AND, OR, IMPLIES, EQUIV, Connective as Any, NOT, two}
 use Rattle.calculus.specs.Bytes.{CONNECTIVE, code}
-use Rattle.width.specs.declared.connective.Binary.{Binary}
-use Rattle.width.specs.declared.connective.Binary.TheVariants.{And, Or, Implies, Equiv}
-use Rattle.width.specs.declared.connective.Connective.{Connective}
-use Rattle.width.specs.declared.connective.Connective.TheVariants.{Not, Two as Joins}
-use Rattle.width.specs.declared.connective.NoConnective.{NoConnective}
+use Rattle.question.specs.declared.connective.Binary.{Binary}
+use Rattle.question.specs.declared.connective.Binary.TheVariants.{And, Or, Implies, Equiv}
+use Rattle.question.specs.declared.connective.Connective.{Connective}
+use Rattle.question.specs.declared.connective.Connective.TheVariants.{Not, Two as Joins}
+use Rattle.question.specs.declared.connective.NoConnective.{NoConnective}
 
 abbrev pub binary_of : Binary → Two
 binary_of And = AND
