@@ -21,6 +21,14 @@ connective_of (Joins o) = two (binary_of o)
 abbrev pub command_of : Connective → ℕ
 command_of k = code (CONNECTIVE (connective_of k))
 
+-- and those of document 01 as the code's
+abbrev pub coded : Any → Connective
+coded NOT = Not
+coded (two AND) = Joins And
+coded (two OR) = Joins Or
+coded (two IMPLIES) = Joins Implies
+coded (two EQUIV) = Joins Equiv
+
 -- the connective whose command is the byte, or that there is none
 abbrev pub Names : ℕ → Result Connective NoConnective → Type 0
 Names b r = MatchResult r (λ k. b ≡ command_of k) (λ e. (k : Connective) → b ≡ command_of k → ⊥)
