@@ -1,7 +1,7 @@
 // The connectives, and the bytes that are their commands.
-ghost use Rattle.width.specs.Connectives.{Names};
+ghost use Rattle.question.specs.Connectives.{Names};
 
-#[derive(Clone, Copy)]
+#[derive(Clone, Copy, PartialEq, Eq)]
 pub enum Binary {
     And,
     Or,
@@ -9,7 +9,7 @@ pub enum Binary {
     Equiv,
 }
 
-#[derive(Clone, Copy)]
+#[derive(Clone, Copy, PartialEq, Eq)]
 pub enum Connective {
     Not,
     Two(Binary),
