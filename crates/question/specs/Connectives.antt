@@ -22,7 +22,7 @@ abbrev pub command_of : Connective → ℕ
 command_of k = code (CONNECTIVE (connective_of k))
 
 -- and those of document 01 as the code's
-abbrev pub coded : Any → Connective
+abbrev pub coded : Defined → Connective
 coded NOT = Not
 coded (two AND) = Joins And
 coded (two OR) = Joins Or

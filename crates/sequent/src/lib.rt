@@ -5,7 +5,7 @@ ghost use Rattle.std.specs.Prelude.{◌≡◌, [], ◌∷◌, ◌++◌, ◌+◌,
 ghost use Rattle.std.proofs.Math.Seq.{slice};
 ghost use Rattle.calculus.specs.declared.Side.TheVariants.{Left, Right};
 ghost use Rattle.calculus.specs.Limits;
-ghost use Rattle.calculus.specs.Syntax.{Connective as Any, size};
+ghost use Rattle.calculus.specs.Syntax.{Connective as Defined, size};
 ghost use Rattle.calculus.specs.Bytes.{CONNECTIVE, code};
 ghost use Rattle.calculus.specs.Table.{premise};
 ghost use Rattle.question.specs.Connectives.{connective_of, command_of};
@@ -150,17 +150,24 @@ fn low(n: u32) -> u8
 }
 
 impl Reduction {
+    // The command of the compound's connective.
+    pub fn command(self) -> u8
+        ensures { result ≡ self.node % 256 }
+    {
+        low(self.node)
+    }
+
     // The compound's connective: a node holds its command.
     pub fn connective(self) -> Connective
-        requires { (k : Any) × (code (CONNECTIVE k) ≡ self.node % 256) }
+        requires { (k : Defined) × (code (CONNECTIVE k) ≡ self.node % 256) }
         ensures { command_of result ≡ self.node % 256 }
     {
-        Connective::try_from(low(self.node)).unwrap()
+        Connective::try_from(self.command()).unwrap()
     }
 
     // The row of the table that it goes by: where the parts go in each premise.
     pub fn rule(self) -> &'static [Placing]
-        requires { (k : Any) × (code (CONNECTIVE k) ≡ self.node % 256) }
+        requires { (k : Defined) × (code (CONNECTIVE k) ≡ self.node % 256) }
         ensures { result.now ≡ rule_for self }
     {
         rule_of(self.connective(), self.side)

@@ -19,7 +19,7 @@ ghost use Rattle.writer.specs.Emits.{Provable, derivations, Emits};
 
 use calculus::{Kind, Side, Verdict};
 use prover::Finding;
-use question::{Binary, Connective, Question, Refusal};
+use question::{Connective, Question, Refusal};
 use sequent::{Names, Placing, Reduction, Running};
 
 // A derivation that is written: its length, and the verdict.
@@ -78,13 +78,7 @@ fn put_pair(out: &mut [u8], left: u8, right: u8) -> usize
 fn command_of(side: Side, k: Connective) -> u8
     ensures { result ≡ order_code (REDUCE side (connective_of k)) }
 {
-    let low = match k {
-        Connective::Not => 2,
-        Connective::Two(Binary::And) => 3,
-        Connective::Two(Binary::Or) => 4,
-        Connective::Two(Binary::Implies) => 5,
-        Connective::Two(Binary::Equiv) => 6,
-    };
+    let low = u8::from(k);
     match side {
         Side::Left => 0x50 + low,
         Side::Right => 0x60 + low,
