@@ -48,7 +48,7 @@ const LEFT: u32 = 0x2_1_1_2_1_0_0;
 
 const RIGHT: u32 = 0x2_2_2_1_1_0_0;
 
-// The same of a reduction. Both premises of a rule place as many.
+// How many parts each premise of a reduction places. Both premises of a rule place as many.
 fn placed(r: Reduction) -> usize
     requires { (k : Connective) × (code (CONNECTIVE k) ≡ r.node % 256) }
     ensures { Each (λ p. size (premise_of p) ≡ result) (rule_for r) }

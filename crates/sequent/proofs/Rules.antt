@@ -8,7 +8,7 @@ use Rattle.std.proofs.Math.Decide.{dec_lt}
 use Rattle.std.proofs.Math.ListN.{length-map}
 use Rattle.calculus.specs.declared.Side.{Side}
 use Rattle.calculus.specs.declared.Side.TheVariants.{Left, Right}
-use Rattle.calculus.specs.Fold.{fold, ANY}
+use Rattle.calculus.specs.Fold.{fold, ANY, SUM}
 use Rattle.calculus.specs.Limits.{ROOM}
 use Rattle.calculus.specs.Syntax.{Formula, Compound, Seq, on_side, size}
 use Rattle.calculus.specs.Table.{Part, F, G, Put, L, R, table, fill, on, splice, premise, premises}
@@ -111,3 +111,9 @@ module _ (φ : ℕ → Formula) (S : Seq ℕ) (t : Side) (i : ℕ) (f g : ℕ) (
       where
         over : (p : Placing) → ltb ROOM (size (named φ (premise t i S (placed p f g)))) ≡ ltb (ROOM + 1) (size S + size (premise_of p))
         over p = one_more (size (named φ (premise t i S (placed p f g)))) (size S + size (premise_of p)) (omega (arith, size_named φ (premise t i S (placed p f g)), placed_size i f g S t p h))
+
+    -- the stores of all premises of a rule
+    pub rule_stores : fold SUM (λ p. size (premise t i S (placed p f g))) r ≡ fold SUM size (premises t i x (named φ S))
+    rule_stores =
+        ap (λ (h : Placing → ℕ). fold SUM h r) (fun_ext (λ p. sym (size_named φ (premise t i S (placed p f g)))))
+        ∙ sym (fold_map SUM size (λ p. named φ (premise t i S (placed p f g))) r) ∙ ap (fold SUM size) rule_premises
