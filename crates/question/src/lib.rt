@@ -79,7 +79,8 @@ impl Refusal {
     }
 }
 
-// The command byte of a side. Commands stay bytes and have no enum: document 01's form names the match on the byte (`next`).
+// The command byte of a side. Where a question is read or walked, commands stay bytes: document 01's form names the match on the
+// byte (`next`), and a walk only asks whether a byte is a letter's or NOT's.
 pub fn head_of(side: Side) -> u8
     ensures { result ≡ code (SIDE side) }
 {
@@ -97,7 +98,7 @@ fn byte_at(q: &[u8], at: usize) -> Result<u8, Refusal>
 }
 
 // Where the reader is: the connectives so far, the place of the next byte, the formulas due there, and the sides whose
-// command is to come. The bytes and `Standing` stay outside: no struct with a ghost field is made by `..self`, so that each step
+// command is to come, a number of them as the formulas are. The bytes and `Standing` stay outside: no struct with a ghost field is made by `..self`, so that each step
 // would write out all fields.
 #[derive(Clone, Copy)]
 pub struct Cursor {
@@ -291,8 +292,8 @@ impl<'a> Question<'a> {
     }
 }
 
-// A walk over commands: the position of the next, and the formulas due from there on. It goes from letter to letter: as one
-// match for each command, spelling took 1.1 times as long.
+// A walk over commands: the position of the next, and the formulas due from there on. It goes from letter to letter, since what is
+// due falls at letters alone; how many commands there are shows only on the way, so that no range or slice gives them.
 #[derive(Clone, Copy)]
 pub struct Walk {
     pub at: usize,
@@ -337,12 +338,10 @@ impl Walk {
     }
 }
 
-// A formula is the question's bytes and a position, here and in the crates above. A struct of both with `Well` as its ghost field
-// made `gekunday_width` 1.06 to 1.20 times as slow; and with the slice from there on a walk adds up lengths where it now hands
-// a position on, which spelling and the refusals need besides.
+// A formula is the question's bytes and a position, here and in the crates above. In a struct of both, with `Well` as its ghost
+// field, each part would be put in to be taken out again, since walks hand positions on, and the width took 1.06 to 1.20 times as long.
 
-// The position behind n formulas that stand one after the other from a position on. That so many stand there is asked, here and in
-// `letters`: a walk with this as its ghost field would prove it again at each command.
+// The position behind n formulas that stand one after the other from a position on.
 pub fn skip(q: &[u8], at: usize, n: usize) -> usize
     requires { n ≤ length (formulas (drop at q.now)) }
     ensures { result ≡ at + bytes_all (take n (formulas (drop at q.now))) }

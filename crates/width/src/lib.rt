@@ -119,19 +119,19 @@ pub fn part_widths(q: &[u8], k: Connective, at: usize) -> Walked<Pair>
     }
 }
 
-// The product of the widths of n formulas on a side that stand one after the other from a position on.
-fn formulas_product(q: &[u8], side: Side, at: usize, n: usize) -> Walked<u64>
-    requires n_in_bounds { n ≤ length (formulas (drop at q.now)) }
-    requires q_bound { (product_of side at (take n (formulas (drop at q.now)))).connectives ≤ CONNECTIVES }
-    ensures { result ≡ product_of side at (take n (formulas (drop at q.now))) }
+// The product of the widths of a side's formulas, where that side starts.
+fn side_product(q: Question<'_>, side: Side, start: usize) -> Walked<u64>
+    requires { start ≡ side_start side (question q.bytes.now) }
+    ensures { result ≡ product_of side start (on_side side (question q.entry.bytes.now)) }
 {
+    let n = q.count(side, start);
     let mut all = Walked {
         value: 1,
         connectives: 0,
-        end: at,
+        end: start,
     };
     for _ in 0..n {
-        let f = widths(q, all.end);
+        let f = widths(q.bytes, all.end);
         all = Walked {
             value: all.value * f.value.on(side),
             connectives: all.connectives + f.connectives,
@@ -139,14 +139,6 @@ fn formulas_product(q: &[u8], side: Side, at: usize, n: usize) -> Walked<u64>
         };
     }
     all
-}
-
-// The formulas of a side, where that side starts.
-fn side_product(q: Question<'_>, side: Side, start: usize) -> Walked<u64>
-    requires { start ≡ side_start side (question q.bytes.now) }
-    ensures { result ≡ product_of side start (on_side side (question q.entry.bytes.now)) }
-{
-    formulas_product(q.bytes, side, start, q.count(side, start))
 }
 
 // What the width call answers: W and c.
