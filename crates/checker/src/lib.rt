@@ -54,13 +54,13 @@ impl Fault {
         ensures { result ≡ fault_place self }
     {
         match self {
-            Fault::CutShort(at) => at,
-            Fault::UnknownCommand(at) => at,
-            Fault::NoFormula(at) => at,
-            Fault::OtherConnective(at) => at,
-            Fault::NotClosed(at) => at,
-            Fault::BytesAfter(at) => at,
-            Fault::NotEqual(at) => at,
+            Fault::CutShort(at)
+            | Fault::UnknownCommand(at)
+            | Fault::NoFormula(at)
+            | Fault::OtherConnective(at)
+            | Fault::NotClosed(at)
+            | Fault::BytesAfter(at)
+            | Fault::NotEqual(at) => at,
         }
     }
 }
