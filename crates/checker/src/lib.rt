@@ -293,10 +293,7 @@ fn walk_premise(t: Names<'_>, d: &[u8], s: Running, r: Reduction, p: Placing, at
 {
     let mut next = [0u8; 80];
     let made = s.premise(t.items, &mut next, r, p);
-    let names = Names {
-        nodes: t.nodes,
-        items: &next,
-    };
+    let names = Names { items: &next, ..t };
     Tally {
         walked: walk(names, d, made.running, at),
         stores: made.stores,
