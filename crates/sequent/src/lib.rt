@@ -183,8 +183,8 @@ impl Pass {
         ensures { Stored self result end (slice self.from end old.now) new.old new.new }
     {
         let mut a = self;
-        for i in self.from..end {
-            a = a.put(new, old[i]);
+        for &x in &old[self.from..end] {
+            a = a.put(new, x);
         }
         Pass { from: end, ..a }
     }
