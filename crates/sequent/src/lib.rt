@@ -492,8 +492,7 @@ impl Running {
     {
         let n = self.lefts + self.rights;
         let right = &items[self.lefts..n];
-        for i in 0..self.lefts {
-            let x = items[i];
+        for (i, &x) in items[..self.lefts].iter().enumerate() {
             if LETTERS <= x {
                 if let Some(j) = place_of(right, x) {
                     return Some(Pair { left: i, right: j });
