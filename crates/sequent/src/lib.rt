@@ -142,19 +142,12 @@ fn rule_of(k: Connective, side: Side) -> &'static [Placing]
     RULES[i][j]
 }
 
-// The lowest byte of a number.
-fn low(n: u32) -> u8
-    ensures { result ≡ n % 256 }
-{
-    (n % 256) as u8
-}
-
 impl Reduction {
     // The command of the compound's connective.
     pub fn command(self) -> u8
         ensures { result ≡ self.node % 256 }
     {
-        low(self.node)
+        self.node.to_le_bytes()[0]
     }
 
     // The compound's connective: a node holds its command.
@@ -440,8 +433,7 @@ impl Running {
             new.new
             result }
     {
-        let f = low(r.node / 256);
-        let g = low(r.node / 65536);
+        let [_, f, g, _] = r.node.to_le_bytes();
         self.build(old, new, r.side, r.at, Parts { p, f, g })
     }
 
