@@ -56,7 +56,8 @@ struct Parts {
     g: u8,
 }
 
-// The compound at a place of a side, by its node.
+// The compound at a place of a side, by its node. That a node holds a connective's command stays in `requires`: a ghost field would ask
+// it of `command` too, whose callers are asked nothing.
 #[derive(Clone, Copy)]
 pub struct Reduction {
     pub side: Side,
@@ -229,7 +230,8 @@ impl Pass {
 
 // ---- the letters and the compounds of a premise's parts
 
-// The bit of a letter; none for a compound.
+// The bit of a letter; none for a compound. Letters and compounds are two sets, so these stay two functions (decision 64): with one
+// for both bits `decide` took 1.02 to 1.10 times as long when it was tried.
 pub fn letter_bit(name: u8) -> u64
     ensures { result ≡ bit_of name }
 {
@@ -437,7 +439,8 @@ impl Running {
         self.build(old, new, r.side, r.at, Parts { p, f, g })
     }
 
-    // The first formula with a connective, the left side before the right, where there is none before a place of the list.
+    // The first formula with a connective, the left side before the right, where there is none before a place of the list. It counts
+    // the places: over the slice, by `position` or `enumerate`, `decide` takes 1.25 to 1.55 times as long.
     pub fn first_compound(self, items: &[u8; 80], from: usize) -> Option<Place>
         requires { (self.lefts + self.rights ≤ Limits.ROOM) × Clear from items.now self }
         ensures { Found (view self items.now) result }
