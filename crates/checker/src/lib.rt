@@ -54,13 +54,13 @@ impl Fault {
         ensures { result ≡ fault_place self }
     {
         match self {
-            Fault::CutShort(at) => at,
-            Fault::UnknownCommand(at) => at,
-            Fault::NoFormula(at) => at,
-            Fault::OtherConnective(at) => at,
-            Fault::NotClosed(at) => at,
-            Fault::BytesAfter(at) => at,
-            Fault::NotEqual(at) => at,
+            Fault::CutShort(at)
+            | Fault::UnknownCommand(at)
+            | Fault::NoFormula(at)
+            | Fault::OtherConnective(at)
+            | Fault::NotClosed(at)
+            | Fault::BytesAfter(at)
+            | Fault::NotEqual(at) => at,
         }
     }
 }
@@ -293,10 +293,7 @@ fn walk_premise(t: Names<'_>, d: &[u8], s: Running, r: Reduction, p: Placing, at
 {
     let mut next = [0u8; 80];
     let made = s.premise(t.items, &mut next, r, p);
-    let names = Names {
-        nodes: t.nodes,
-        items: &next,
-    };
+    let names = Names { items: &next, ..t };
     Tally {
         walked: walk(names, d, made.running, at),
         stores: made.stores,

@@ -41,7 +41,7 @@ pub struct Loaded {
 fn node(b: u8, f: u8, g: u8) -> u32
     ensures { result ≡ node b f g }
 {
-    u32::from(b) + 256 * u32::from(f) + 65536 * u32::from(g)
+    u32::from_le_bytes([b, f, g, 0])
 }
 
 fn name(n: usize) -> u8

@@ -6,7 +6,7 @@ use mathlib.Core.List.{map-append}
 use Rattle.std.proofs.Math.ListN.{get_elem?}
 use Rattle.calculus.specs.declared.Side.{Side}
 use Rattle.calculus.specs.declared.Side.TheVariants.{Left, Right}
-use Rattle.calculus.specs.Fold.{fold, SUM, Each}
+use Rattle.calculus.specs.Fold.{Each}
 use Rattle.calculus.specs.Syntax.{Seq, on_side}
 use Rattle.calculus.specs.Table.{L, R, on, splice, premise}
 use Rattle.calculus.proofs.Folds.{each_append}

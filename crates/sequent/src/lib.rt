@@ -56,7 +56,8 @@ struct Parts {
     g: u8,
 }
 
-// The compound at a place of a side, by its node.
+// The compound at a place of a side, by its node. That a node holds a connective's command stays in `requires`: a ghost field would ask
+// it of `command` too, whose callers are asked nothing.
 #[derive(Clone, Copy)]
 pub struct Reduction {
     pub side: Side,
@@ -142,19 +143,12 @@ fn rule_of(k: Connective, side: Side) -> &'static [Placing]
     RULES[i][j]
 }
 
-// The lowest byte of a number.
-fn low(n: u32) -> u8
-    ensures { result ≡ n % 256 }
-{
-    (n % 256) as u8
-}
-
 impl Reduction {
     // The command of the compound's connective.
     pub fn command(self) -> u8
         ensures { result ≡ self.node % 256 }
     {
-        low(self.node)
+        self.node.to_le_bytes()[0]
     }
 
     // The compound's connective: a node holds its command.
@@ -183,8 +177,8 @@ impl Pass {
         ensures { Stored self result end (slice self.from end old.now) new.old new.new }
     {
         let mut a = self;
-        for i in self.from..end {
-            a = a.put(new, old[i]);
+        for &x in &old[self.from..end] {
+            a = a.put(new, x);
         }
         Pass { from: end, ..a }
     }
@@ -236,7 +230,8 @@ impl Pass {
 
 // ---- the letters and the compounds of a premise's parts
 
-// The bit of a letter; none for a compound.
+// The bit of a letter; none for a compound. Letters and compounds are two sets, so these stay two functions (decision 64): with one
+// for both bits `decide` took 1.02 to 1.10 times as long when it was tried.
 pub fn letter_bit(name: u8) -> u64
     ensures { result ≡ bit_of name }
 {
@@ -440,12 +435,12 @@ impl Running {
             new.new
             result }
     {
-        let f = low(r.node / 256);
-        let g = low(r.node / 65536);
+        let [_, f, g, _] = r.node.to_le_bytes();
         self.build(old, new, r.side, r.at, Parts { p, f, g })
     }
 
-    // The first formula with a connective, the left side before the right, where there is none before a place of the list.
+    // The first formula with a connective, the left side before the right, where there is none before a place of the list. It counts
+    // the places: over the slice, by `position` or `enumerate`, `decide` takes 1.25 to 1.55 times as long.
     pub fn first_compound(self, items: &[u8; 80], from: usize) -> Option<Place>
         requires { (self.lefts + self.rights ≤ Limits.ROOM) × Clear from items.now self }
         ensures { Found (view self items.now) result }
@@ -492,8 +487,7 @@ impl Running {
     {
         let n = self.lefts + self.rights;
         let right = &items[self.lefts..n];
-        for i in 0..self.lefts {
-            let x = items[i];
+        for (i, &x) in items[..self.lefts].iter().enumerate() {
             if LETTERS <= x {
                 if let Some(j) = place_of(right, x) {
                     return Some(Pair { left: i, right: j });
