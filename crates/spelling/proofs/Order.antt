@@ -3,9 +3,9 @@
 use mathlib.Core.Path.{◌≡◌, refl, sym, ap, ◌∙◌, subst}
 use mathlib.Core.Bool.{Bool, true, false, false≢true}
 use mathlib.Core.List.{List, [], ◌∷◌, ◌++◌, map, map-append}
-use Prim.Native.Nat.{ℕ, zero, suc, ◌+◌, ◌-◌, ◌≤◌, ◌<◌}
+use Prim.Native.Nat.{ℕ, zero, suc, ◌+◌, ◌≤◌, ◌<◌}
 use native.Mathlib.Omega.{arith}
-use lib.ListN.{length, take, drop, get_or, set, length-take, length-drop, length-set}
+use lib.ListN.{length, take, drop, get_or}
 use Rattle.std.proofs.Common.{Bor}
 use Rattle.std.specs.Prelude.{Option, Some, None, MatchOption, HoldsAt, nat_eq}
 use Rattle.std.specs.List.{AllWithin}
@@ -15,11 +15,8 @@ use Rattle.std.specs.declared.cmp.Ordering.TheVariants.{Less, Equal, Greater}
 use Rattle.std.specs.Ordering.{nat_cmp, is_le, is_some_and, partial_le}
 use Rattle.std.specs.Cmp.Lexicographic.{pointwise, slice_partial_cmp, lists_agrees}
 use Rattle.std.proofs.lemmas.Bool.Decides.{Decides-eqb}
-use Rattle.std.proofs.lemmas.List.{take-map, drop-map, take-take, drop-take, take-set, drop_all}
-use Rattle.std.proofs.lemmas.Slice.{take-put_mid}
+use Rattle.std.proofs.lemmas.List.{take-map, drop-map}
 use Rattle.std.proofs.lemmas.Slice.Eq.{slice_eq-Decides}
-use Rattle.std.proofs.lemmas.Grind.{drop-set_at}
-use borrow.Rule.Slice.PartMut.{mid_of, put_mid}
 use Rattle.calculus.specs.Standard.{compare, place, insert}
 use Rattle.calculus.proofs.Standard.{map_insert, compare_self, compare_equal}
 
@@ -108,24 +105,3 @@ module _ (ls : List (Bor (List ℕ))) (x : Bor (List ℕ)) (i : ℕ) where
         less : i < length ls → compare x.now (get_or ls i d).now ≡ Less
         less h = less_of (compare x.now (get_or ls i d).now) (s.from d h)
             (λ e. false≢true (sym (n h) ∙ (slice_eq-Decides Decides-eqb (get_or ls i d).now x.now _ refl).1 (sym (compare_equal x.now (get_or ls i d).now e))))
-
--- ---- x put in before place i of the first n: stored behind them, and turned with those from i on
-
-module _ {X : Type 0} (items : List X) (n i : ℕ) (x : X) (within : i ≤ n) (room : n < length items) where
-  part_length : length (mid_of i (n + 1 - i) items) ≡ n - i + 1
-  part_length = simp (length-take, length-drop) (omega arith)
-
-  pub turned : (ys : List X) → ys ≡ set (mid_of i (n + 1 - i) items) (n - i) x → drop (length ys - 1) ys ++ take (length ys - 1) ys ≡ x ∷ take (n - i) (drop i items)
-  turned ys e =
-      let p = mid_of i (n + 1 - i) items in
-      let k : length ys - 1 ≡ n - i = omega (arith, ap length e ∙ length-set p (n - i) x, part_length) in
-      let last : drop (n - i + 1) p ≡ [] = drop_all (n - i + 1) p (omega (arith, part_length)) in
-      let first : take (n - i) p ≡ take (n - i) (drop i items) = take-take (n - i) (n + 1 - i) (drop i items) (omega arith) in
-      rw (k, e, drop-set_at p (n - i) (n - i) x refl (omega (arith, part_length)), last, take-set p (n - i) x, first)
-
-  pub put_in : (ys : List X) → ys ≡ x ∷ take (n - i) (drop i items) → take (n + 1) (put_mid i (n + 1 - i) items ys) ≡ take i (take n items) ++ (x ∷ drop i (take n items))
-  put_in ys e =
-      let size : length ys ≡ n - i + 1 = ap length e ∙ simp (length-take, length-drop) (omega arith) in
-      let whole : i + (n - i) ≡ n = omega arith in
-      let rest : drop i (take n items) ≡ take (n - i) (drop i items) = rw whole at (drop-take i (n - i) items) in
-      take-put_mid i (n + 1 - i) items ys (n + 1) (omega (arith, size)) (omega arith) ∙ rw (e, rest, take-take i n items within)

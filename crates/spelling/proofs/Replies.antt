@@ -8,7 +8,7 @@ use native.Mathlib.Omega.{arith}
 use lib.ListN.{length, take, drop, length-append, length-drop, length-map}
 use borrow.Rule.Slice.PartMut.{mid_of, put_mid, post_of}
 use Rattle.std.proofs.Common.{Bor, drop-drop}
-use Rattle.std.specs.Prelude.{sum_by}
+use Rattle.std.specs.Prelude.{sum_by, Result, Ok, Err, MatchResult, IsErrAnd, IfOk}
 use Rattle.std.specs.List.{concat}
 use Rattle.std.proofs.lemmas.List.{take_at, drop_at, take_all, drop_all}
 use Rattle.calculus.specs.declared.Side.{Side}
@@ -26,7 +26,9 @@ use Rattle.calculus.proofs.Standard.{standard_ascends, standard_sets, standard_t
 use Rattle.question.specs.declared.Question.{Question}
 use Rattle.question.proofs.Questions.{side_inside}
 use Rattle.spelling.specs.Sides.{side_bytes}
-use Rattle.spelling.specs.Answers.{Spells}
+use Rattle.spelling.specs.declared.NotSpelled.{NotSpelled}
+use Rattle.spelling.specs.declared.NotSpelled.TheVariants.{NoSpace}
+use Rattle.spelling.specs.Answers.{Spells, spelling_of}
 use Rattle.spelling.proofs.Writes.{counted, spelled}
 
 pub spells : (q : List ℕ) → reading q ≡ accepted → Spells q (spelling (question q))
@@ -109,15 +111,29 @@ module _ (q old : List ℕ) (ls rs : List (Bor (List ℕ))) (s : Entered q ls rs
       let read : spell q old ≡ fill_out (spelling (question q)) [] old = rw s.accept in
       read ∙ ap (λ (bs : List ℕ). fill_out bs [] old) (sym (both_spelled q ls rs s))
 
-  pub short_answer : length old < n → unwritten NO_SPACE (n ∷ []) old ≡ spell q old
+  short_answer : length old < n → unwritten NO_SPACE (n ∷ []) old ≡ spell q old
   short_answer l = rw count (sym (filled ∙ no_room (side_bytes Left ls ++ side_bytes Right rs) [] old (rw (← count) l)))
 
-  pub spelled_answer : n ≤ length old
+  spelled_answer : n ≤ length old
       → record { reply = record { number = 0; values = n ∷ [] }; buffer = (side_bytes Left ls ++ side_bytes Right rs) ++ drop n old } ≡ spell q old
   spelled_answer l = rw count (sym (filled ∙ room (side_bytes Left ls ++ side_bytes Right rs) [] old (rw (← count) l)))
 
-  pub spelled_one : (new : List ℕ) → new ≡ (side_bytes Left ls ++ side_bytes Right rs) ++ drop n old → Spells q (take n new)
+  spelled_one : (new : List ℕ) → new ≡ (side_bytes Left ls ++ side_bytes Right rs) ++ drop n old → Spells q (take n new)
   spelled_one new e =
       let bs = side_bytes Left ls ++ side_bytes Right rs in
       let t : take n new ≡ spelling (question q) = rw e (take_at bs (drop n old) n (sym count)) ∙ both_spelled q ls rs s in
       rw t (spells q s.accept)
+
+-- what the call answers, by what was written
+pub call_answers : (q old new : List ℕ) (ls rs : List (Bor (List ℕ))) → Entered q ls rs → (w : Result ℕ ℕ) (r : Result ℕ NotSpelled)
+    → MatchResult w (λ n. (n ≡ length (side_bytes Left ls ++ side_bytes Right rs)) × (n ≤ length old) × (new ≡ (side_bytes Left ls ++ side_bytes Right rs) ++ drop n old))
+    (λ n. (n ≡ length (side_bytes Left ls ++ side_bytes Right rs)) × (length old < n) × (new ≡ old))
+    → MatchResult w (λ n. r ≡ Ok n) (λ n. IsErrAnd r (λ e. e ≡ NoSpace n))
+    → (spelling_of r ≡ (spell q old).reply) × (new ≡ (spell q old).buffer) × IfOk r (λ n. Spells q (take n new))
+call_answers q old new ls rs s (Ok n) r h e =
+    let a = spelled_answer q old ls rs s n h.0 h.1 in
+    rw e (ap (λ v. v.reply) a, h.2 ∙ ap (λ v. v.buffer) a, spelled_one q old ls rs s n h.0 new h.2)
+call_answers q old new ls rs s (Err n) (Ok m) h e = absurd e
+call_answers q old new ls rs s (Err n) (Err d) h e =
+    let a = short_answer q old ls rs s n h.0 h.1 in
+    (rw e (ap (λ v. v.reply) a), h.2 ∙ ap (λ v. v.buffer) a, tt)

@@ -13,9 +13,9 @@ ghost use Rattle.spelling.specs.declared.NotSpelled.TheVariants.{Refused};
 ghost use Rattle.spelling.specs.Sides.{side_bytes};
 ghost use Rattle.spelling.specs.Answers.{spelling_of, Spells};
 
+use arrayvec::ArrayVec;
 use calculus::Side;
 use question::{ALL_FORMULAS, Question, Refusal};
-use std::marker::Model;
 
 // Where a formula is among others that ascend, or else where it belongs. From the front: by halves (`binary_search`) spelling
 // took 1.3 times as long where sides have many formulas.
@@ -33,67 +33,34 @@ fn spot_of(items: &[&[u8]], x: &[u8]) -> Result<usize, usize>
     }
 }
 
-// Formulas by their bytes, ascending, equal ones once: the first n of an array, since there is no heap.
-#[derive(Drop)]
-struct Arranged<'a> {
-    items: [&'a [u8]; ALL_FORMULAS],
-    n: usize,
+// Puts a formula where it belongs among others that ascend by their bytes, unless it is there.
+fn enter<'a>(formulas: &mut ArrayVec<&'a [u8], ALL_FORMULAS>, x: &'a [u8])
+    requires { length formulas.old.items < FORMULAS }
+    ensures { map (λ f. f.now) formulas.new.items ≡ insert (λ l. l) x.now (map (λ f. f.now) formulas.old.items) }
+{
+    if let Err(i) = spot_of(formulas.as_slice(), x) {
+        formulas.insert(i, x);
+    }
 }
 
-impl<'a> Model for Arranged<'a> {
-    ghost Value = { List (List ℕ) };
-
-    ghost view = { λ a. map (λ f. f.now) (take a.n a.items) };
-
-    ghost invariant = { λ a. a.n ≤ FORMULAS };
-}
-
-impl<'a> Arranged<'a> {
-    fn new() -> Self
-        ensures { result ≡ [] }
-    {
-        Arranged {
-            items: [&[]; ALL_FORMULAS],
-            n: 0,
-        }
+// Enters the formulas of a side, which start there, and answers the position behind them.
+fn enter_side<'a>(
+    formulas: &mut ArrayVec<&'a [u8], ALL_FORMULAS>,
+    q: Question<'a>,
+    side: Side,
+    start: usize,
+) -> usize
+    requires { (formulas.old.items ≡ []) × (start ≡ side_start side (question q.bytes.now)) }
+    ensures { (map (λ f. f.now) formulas.new.items ≡ map encode (arranged (on_side side (question q.entry.bytes.now))))
+        × (result ≡ start + bytes_all (on_side side (question q.entry.bytes.now))) }
+{
+    let mut at = start;
+    for _ in 0..q.count(side, start) {
+        let end = question::end_of(q.bytes, at);
+        enter(formulas, &q.bytes[at..end]);
+        at = end;
     }
-
-    // Puts a formula where it belongs, unless it is there.
-    fn enter(&mut self, x: &'a [u8])
-        requires { length self.old < FORMULAS }
-        ensures { self.new ≡ insert (λ l. l) x.now self.old }
-    {
-        let n = self.n;
-        if let Err(i) = spot_of(&self.items[..n], x) {
-            self.n = n + 1;
-            let items = &mut self.items[i..n + 1];
-            items[n - i] = x;
-            items.rotate_right(1);
-        }
-    }
-
-    // As a slice.
-    fn formulas(&self) -> &[&'a [u8]]
-        ensures few { length result.now ≤ FORMULAS }
-        ensures are { map (λ f. f.now) result.now ≡ self.now }
-    {
-        &self.items[..self.n]
-    }
-
-    // Enters the formulas of a side, which start there, and answers the position behind them.
-    fn enter_side(&mut self, q: Question<'a>, side: Side, start: usize) -> usize
-        requires { (self.old ≡ []) × (start ≡ side_start side (question q.bytes.now)) }
-        ensures { (self.new ≡ map encode (arranged (on_side side (question q.entry.bytes.now))))
-            × (result ≡ start + bytes_all (on_side side (question q.entry.bytes.now))) }
-    {
-        let mut at = start;
-        for _ in 0..q.count(side, start) {
-            let end = question::end_of(q.bytes, at);
-            self.enter(&q.bytes[at..end]);
-            at = end;
-        }
-        at
-    }
+    at
 }
 
 // How many bytes formulas have.
@@ -162,12 +129,9 @@ pub fn spell(q: &[u8], out: &mut [u8]) -> Result<usize, NotSpelled>
     ensures one { IfOk result (λ n. Spells q.now (take n out.new)) }
 {
     let q = Question::read(q)?;
-    let mut lefts = Arranged::new();
-    let mut rights = Arranged::new();
-    let start = lefts.enter_side(q, Side::Left, 2) + 2;
-    rights.enter_side(q, Side::Right, start);
-    match write_sides(lefts.formulas(), rights.formulas(), out) {
-        Ok(n) => Ok(n),
-        Err(n) => Err(NotSpelled::NoSpace(n)),
-    }
+    let mut lefts = ArrayVec::new();
+    let mut rights = ArrayVec::new();
+    let start = enter_side(&mut lefts, q, Side::Left, 2) + 2;
+    enter_side(&mut rights, q, Side::Right, start);
+    write_sides(lefts.as_slice(), rights.as_slice(), out).map_err(NotSpelled::NoSpace)
 }

@@ -1,0 +1,10 @@
+-- The loop's invariant: what is entered and the formulas ahead are all of the side.
+use Rattle.std.proofs.Common.{◌+◌, ◌-◌, map}
+use Rattle.calculus.specs.Syntax.{on_side}
+use Rattle.calculus.specs.Bytes.{bytes_all, question}
+use Rattle.spelling.proofs.Arranges.{Arranging}
+use Rattle.spelling.proofs.enter_side.Given as goal
+
+abbrev pub invariant-loop : goal.invariant-loop
+invariant-loop l =
+    Arranging l.q.bytes.now (on_side l.fn.side (question l.q.bytes.now)) (l.start + bytes_all (on_side l.fn.side (question l.q.bytes.now))) (map (λ f. f.now) l.formulas.items) l.at (l.end - l.counter)
