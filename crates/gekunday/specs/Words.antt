@@ -1,5 +1,5 @@
 -- The words that a call for C leaves: document 01's values, in the places of the header; words that are not named are 0.
-use Rattle.std.specs.Prelude.{◌≡◌, List, [], ◌∷◌, ℕ, zero, suc}
+use Rattle.std.specs.Prelude.{◌≡◌, List, [], ◌∷◌, ℕ, zero, suc, Result, Ok, Err}
 use Rattle.calculus.specs.declared.Side.TheVariants.{Left, Right}
 use Rattle.calculus.specs.declared.Kind.{Kind}
 use Rattle.calculus.specs.declared.Kind.TheVariants.{Theorem, Refuted, Spent, Full}
@@ -10,6 +10,8 @@ use Rattle.calculus.specs.Bytes.{question}
 use Rattle.calculus.specs.Reading.{Reading, accepted, refused, reading}
 use Rattle.calculus.specs.Tree.{verdict}
 use Rattle.calculus.specs.Reply.{Reply, formula_part}
+use Rattle.question.specs.declared.Refusal.{Refusal}
+use Rattle.question.specs.Answers.{number_of, place_of}
 use Rattle.gekunday.specs.declared.Words.{Words}
 
 -- n words, the values first
@@ -48,6 +50,11 @@ verdict_words v = refuted_word v.kind ∷ state_word v.kind ∷ v.reductions ∷
 -- a verdict's number and words
 abbrev pub Tells : Verdict → Words → Type 0
 Tells v w = (w.number ≡ kind_number v.kind) × (w.values ≡ verdict_words v)
+
+-- of what is decided, a verdict or a refusal
+abbrev pub Decided : Result Verdict Refusal → Words → Type 0
+Decided (Ok v) w = Tells v w
+Decided (Err r) w = Holds (record { number = number_of r; values = place_of r ∷ [] }) w
 
 abbrev pub read_words : Reading → Verdict → List ℕ
 read_words accepted v = verdict_words v

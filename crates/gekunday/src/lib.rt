@@ -17,13 +17,13 @@ ghost use Rattle.checker.specs.Answers.{fault_number, fault_place, check_of};
 ghost use Rattle.states.specs.Answers.{listing_of, Lists};
 ghost use Rattle.spelling.specs.Answers.{spelling_of, Spells};
 ghost use Rattle.clauses.specs.Answers.{reply_of, Settles};
-ghost use Rattle.gekunday.specs.Words.{filled, Holds, Tells, decide_words, part_words};
+ghost use Rattle.gekunday.specs.Words.{filled, Holds, Tells, Decided, decide_words, part_words};
 ghost use Rattle.gekunday.specs.Words.{formula_words};
 
 use calculus::{Kind, Part, Side, Verdict};
 use checker::NotPassed;
 use clauses::{ClauseVerdict, NotClauses};
-use question::{Question, Refusal};
+use question::Refusal;
 use spelling::NotSpelled;
 use states::NotListed;
 use width::Measure;
@@ -186,7 +186,19 @@ impl From<Verdict> for Words {
     }
 }
 
-// A question that is no theorem: its state if it is refuted, and both counts.
+impl From<Result<Verdict, Refusal>> for Words {
+    ghost from_gives = { λ a w. Decided a w };
+
+    fn from(a: Result<Verdict, Refusal>) -> Words {
+        match a {
+            Ok(v) => v.into(),
+            Err(r) => r.into(),
+        }
+    }
+}
+
+// A question that is no theorem: its state if it is refuted, and both counts. A function, since a verdict's own conversion
+// to words is that of the call that decides.
 fn unproved_words(v: Verdict) -> Words
     ensures { Holds (unproved v.kind v.reductions v.closings) result }
 {
@@ -201,6 +213,7 @@ fn unproved_words(v: Verdict) -> Words
     }
 }
 
+// A number with both counts of a verdict.
 fn counts(number: u32, v: Verdict) -> Words
     ensures { Holds (record { number = number; values = v.reductions ∷ v.closings ∷ [] }) result }
 {
@@ -291,7 +304,7 @@ fn part_of(q: &[u8], side: u32, place: usize) -> Part
     match side {
         0 => question::formula_part(q, Side::Left, place),
         1 => question::formula_part(q, Side::Right, place),
-        _ => Part { start: 0, count: 0 },
+        _ => Part::default(),
     }
 }
 
@@ -300,10 +313,7 @@ pub fn gekunday_decide(q: &[u8], budget: u64, out: &mut [u64; 4]) -> u32
     ensures number { result ≡ (decide_reply q.now budget).number }
     ensures words { out.new ≡ decide_words q.now budget }
 {
-    match Question::read(q) {
-        Ok(q) => Words::from(prover::verdict_of(q, budget)).leave(out),
-        Err(r) => Words::from(r).leave(out),
-    }
+    Words::from(prover::decide(q, budget)).leave(out)
 }
 
 // The width of a question, and its connectives.

@@ -1,11 +1,11 @@
--- The digits that std writes of a number or a byte are those of the definitions; and a spaced list with one thing more.
--- Assumes nothing.
-use Rattle.std.proofs.Common.{◌≡◌, refl, sym, ap, ◌∙◌, ℕ, zero, suc, ◌+◌, ◌/◌, ◌%◌, ◌^◌, ◌<◌, ◌≤◌, List, [], ◌∷◌, ◌++◌, length, take, get_or, false, arith, append_assoc, append-nil}
+-- The digits that std writes of a number or a byte are those of the definitions; a spaced list with one thing more; and how
+-- long a text is at most. Assumes nothing.
+use Rattle.std.proofs.Common.{◌≡◌, refl, sym, ap, ◌∙◌, ℕ, zero, suc, ◌+◌, ◌*◌, ◌/◌, ◌%◌, ◌^◌, ◌<◌, ◌≤◌, List, [], ◌∷◌, ◌++◌, length, take, get_or, false, codes, arith, append_assoc, append-nil}
 use Rattle.std.specs.Fmt.{digit_glyph, decimal as shown}
-use Rattle.std.proofs.lemmas.Fmt.{decimal_from_appends, length-decimal-le_succ}
-use Rattle.std.proofs.lemmas.List.{take_more, flat_map_more}
+use Rattle.std.proofs.lemmas.Fmt.{decimal_from_appends, length-decimal-le, length-decimal-le_succ}
+use Rattle.std.proofs.lemmas.List.{length-append, take_more, flat_map_more}
 use Rattle.std.proofs.lemmas.Bool.Decides.{nat_tests}
-use Rattle.print.specs.Text.{blank, newline, spaced, leading, decimal_by, decimal, line}
+use Rattle.print.specs.Text.{blank, newline, spaced, leading, decimal_by, decimal, line, spelled, hexadecimal}
 
 low_digit : (d : ℕ) → d < 10 → digit_glyph false d ≡ 48 + d
 low_digit d h = grind (arith, nat_tests)
@@ -53,3 +53,29 @@ line_then w ns rest h = rw (spaced_written ns (newline ++ rest) h) (simp append_
 
 pub line_alone : (w ns : List ℕ) → AllFit ns → w ++ written ns newline ≡ line w ns
 line_alone w ns h = line_then w ns [] h ∙ append-nil (line w ns)
+
+-- ---- how long a text is at most: 21 bytes a number with its blank, 3 a byte, and 50 the line of a refusal
+
+pub number_length : (n : ℕ) → n < 2 ^ 64 → length (blank ++ decimal n) ≤ 21
+number_length n h = rw (← decimal_shown n h) (omega (arith, length-decimal-le 20 n (omega arith) (omega arith) h))
+
+numbers_length : (ns : List ℕ) → AllFit ns → length (spaced decimal ns) ≤ 21 * length ns
+numbers_length [] h = omega arith
+numbers_length (n ∷ ns) h = omega (arith, number_length n h.0, numbers_length ns h.1, length-append (blank ++ decimal n) (spaced decimal ns))
+
+pub line_length : (w ns : List ℕ) → AllFit ns → length (line w ns) ≤ length w + 21 * length ns + 1
+line_length w ns h = omega (arith, numbers_length ns h, length-append (w ++ spaced decimal ns) newline, length-append w (spaced decimal ns))
+
+bytes_length : (bs : List ℕ) → length (spaced spelled bs) ≤ 3 * length bs
+bytes_length [] = omega arith
+bytes_length (b ∷ bs) = omega (arith, bytes_length bs)
+
+pub hexadecimal_length : (bs : List ℕ) → length (hexadecimal bs) ≤ 3 * length bs
+hexadecimal_length [] = omega arith
+hexadecimal_length (b ∷ bs) = omega (arith, bytes_length bs)
+
+pub hexadecimal_line_length : (bs : List ℕ) → length (hexadecimal bs ++ newline) ≤ 3 * length bs + 1
+hexadecimal_line_length bs = omega (arith, hexadecimal_length bs, length-append (hexadecimal bs) newline)
+
+pub refused_length : (n p : ℕ) → n < 2 ^ 64 → p < 2 ^ 64 → length (line (codes "refused") (n ∷ p ∷ [])) ≤ 50
+refused_length n p small near = line_length (codes "refused") (n ∷ p ∷ []) (small, (near, tt))

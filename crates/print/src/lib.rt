@@ -54,8 +54,11 @@ impl fmt::Display for Refused {
     ghost output = { λ r. Some (line (codes "refused") (number_of r.0 ∷ place_of r.0 ∷ [])) };
 
     fn fmt<W: fmt::Write>(&self, f: &mut fmt::Formatter<W>) -> fmt::Result {
-        let number = self.0.number();
-        let place = self.0.place();
-        write!(f, "refused {number} {place}\n")
+        let numbers = [self.0.number() as u64, self.0.place() as u64];
+        let line = Line {
+            word: "refused",
+            numbers: &numbers,
+        };
+        line.fmt(f)
     }
 }

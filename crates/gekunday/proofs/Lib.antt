@@ -1,0 +1,2 @@
+-- The law behind the functions' proofs. Assumes nothing.
+pub mod Decisions
