@@ -1,5 +1,5 @@
 -- "ask": what is printed for a question.
-use Rattle.std.specs.Prelude.{◌≡◌, refl, List, [], ◌∷◌, ◌++◌, ℕ, ◌+◌, ltb, length}
+use Rattle.std.specs.Prelude.{◌≡◌, refl, List, [], ◌∷◌, ◌++◌, ℕ, ◌+◌, ltb, length, codes}
 use Rattle.calculus.specs.declared.Kind.{Kind}
 use Rattle.calculus.specs.declared.Kind.TheVariants.{Theorem, Refuted, Spent, Full}
 use Rattle.calculus.specs.declared.Verdict.{Verdict}
@@ -11,7 +11,7 @@ use Rattle.calculus.specs.Reading.{Reading, accepted, refused, reading}
 use Rattle.calculus.specs.Tree.{verdict}
 use Rattle.calculus.specs.Width.{W}
 use Rattle.calculus.specs.Derivation.{derivation}
-use Rattle.print.specs.Text.{ascii, newline, decimal, line, hexadecimal}
+use Rattle.print.specs.Text.{newline, decimal, line, hexadecimal}
 
 -- "reads one question from standard input (at most 213 bytes)"
 abbrev pub INPUT : ℕ
@@ -27,27 +27,27 @@ BUFFER = 4096
 
 -- "the derivation in lower-case hexadecimal bytes parted by blanks, or `no space`"
 abbrev pub derivation_line : List ℕ → List ℕ
-derivation_line ds = choose (ltb BUFFER (length ds)) (ascii "no space") (hexadecimal ds) ++ newline
+derivation_line ds = choose (ltb BUFFER (length ds)) (codes "no space") (hexadecimal ds) ++ newline
 
 -- "`theorem r c W`, `refuted s r c W`, `spent r c W`"; "after `theorem` a second line"; "number 8 prints as `full r c W`"
 abbrev pub verdict_text : Kind → ℕ → ℕ → ℕ → List ℕ → List ℕ
-verdict_text Theorem r c w ds = line (ascii "theorem") (r ∷ c ∷ w ∷ []) ++ derivation_line ds
-verdict_text (Refuted s) r c w ds = line (ascii "refuted") (s ∷ r ∷ c ∷ w ∷ [])
-verdict_text Spent r c w ds = line (ascii "spent") (r ∷ c ∷ w ∷ [])
-verdict_text Full r c w ds = line (ascii "full") (r ∷ c ∷ w ∷ [])
+verdict_text Theorem r c w ds = line (codes "theorem") (r ∷ c ∷ w ∷ []) ++ derivation_line ds
+verdict_text (Refuted s) r c w ds = line (codes "refuted") (s ∷ r ∷ c ∷ w ∷ [])
+verdict_text Spent r c w ds = line (codes "spent") (r ∷ c ∷ w ∷ [])
+verdict_text Full r c w ds = line (codes "full") (r ∷ c ∷ w ∷ [])
 
 -- "or `refused n p`"
 abbrev pub read_text : Reading → Sequent → List ℕ
 read_text accepted S =
     let v : Verdict = verdict BUDGET S in
     verdict_text v.kind v.reductions v.closings (W S) (derivation S)
-read_text (refused n p) S = line (ascii "refused") (n ∷ p ∷ [])
+read_text (refused n p) S = line (codes "refused") (n ∷ p ∷ [])
 
 -- the whole output
 abbrev pub ask_text : List ℕ → List ℕ
 ask_text q = read_text (reading q) (question q)
 
 -- "for case 4 the whole output is"
-pub case_4 : ask_text (0x10 ∷ 1 ∷ 2 ∷ 4 ∷ 1 ∷ 0 ∷ 1 ∷ 1 ∷ 0x20 ∷ 1 ∷ 2 ∷ 1 ∷ 0 ∷ []) ≡ ascii "theorem 3 1 1\n52 00 62 00 64 00 41 00\n"
+pub case_4 : ask_text (0x10 ∷ 1 ∷ 2 ∷ 4 ∷ 1 ∷ 0 ∷ 1 ∷ 1 ∷ 0x20 ∷ 1 ∷ 2 ∷ 1 ∷ 0 ∷ []) ≡ codes "theorem 3 1 1\n52 00 62 00 64 00 41 00\n"
 unfolding decimal
 case_4 = refl

@@ -25,6 +25,9 @@ use Rattle.calculus.proofs.Sequents.{Due, weight_size, Smaller, smaller}
 use Rattle.calculus.proofs.Spelling.{code_injective}
 use Rattle.calculus.proofs.Trees.{bit_state, Letter}
 use Rattle.calculus.proofs.Derivations.{named_whole, pairs_whole, equals_not}
+use Rattle.question.specs.declared.connective.Connective.{Connective as Named}
+use Rattle.question.specs.Connectives.{connective_of}
+use Rattle.question.proofs.Connectives.{coded_is}
 use Rattle.sequent.specs.declared.Running.{Running}
 use Rattle.sequent.specs.declared.Reduction.{Reduction}
 use Rattle.sequent.specs.Names.{formula_in}
@@ -89,6 +92,10 @@ module _ (T items : List ℕ) (s : Running) (good : Good T items s) where
         command : r.node % 256 ≡ code (CONNECTIVE x.connective)
         command = ap (λ (u : Reduction). u.node % 256) e ∙ (compounded T items s good t i h c).command
 
+        -- its node has a connective's command
+        pub named_there : (j : Connective) × (code (CONNECTIVE j) ≡ r.node % 256)
+        named_there = (x.connective, sym command)
+
         pub other_connective : (r.node % 256 ≡ code (CONNECTIVE k) → ⊥) → Moves T items s at (At k n) (Err (OtherConnective at))
         other_connective z = operand k (Err (OtherConnective at)) (stands_there ∙ by x.connective (ne_eqb _ _ (λ d. z (command ∙ sym d))), refl)
           where
@@ -150,7 +157,7 @@ abbrev Means : Maybe Command → Option Order → Type 0
 Means o None = o ≡ none
 Means o (Some Close) = o ≡ some CLOSE
 Means o (Some Pair) = o ≡ some PAIR
-Means o (Some (Reduction-of t k)) = (j : Connective) × (code (CONNECTIVE j) ≡ k) × (o ≡ some (REDUCE t j))
+Means o (Some (Reduction-of t k)) = o ≡ some (REDUCE t (connective_of k))
 
 means : (o : Maybe Command) (r : Option Order) → order_of o ≡ r → Means o r
 means o r e = subst (Means o) e (go o)
@@ -159,7 +166,7 @@ means o r e = subst (Means o) e (go o)
     go none = refl
     go (some CLOSE) = refl
     go (some PAIR) = refl
-    go (some (REDUCE t k)) = (k, refl, refl)
+    go (some (REDUCE t k)) = ap (λ (j : Connective). some (REDUCE t j)) (sym (coded_is k))
 
 module _ (T items : List ℕ) (s : Running) (i at b : ℕ) (n : Maybe ℕ) where
   abbrev S : Sequent
@@ -184,6 +191,6 @@ module _ (T items : List ℕ) (s : Running) (i at b : ℕ) (n : Maybe ℕ) where
   pub pairing : (m : Result Move Fault) → order_of (order b) ≡ Some Pair → Moves T items s at (obey (some PAIR) i n S) m → Moves T items s at (obey (order b) i n S) m
   pairing m e f = rw (means (order b) (Some Pair) e) f
 
-  pub reduction : (t : Side) (k : ℕ) (m : Result Move Fault) → order_of (order b) ≡ Some (Reduction-of t k)
-      → ((j : Connective) → code (CONNECTIVE j) ≡ k → Moves T items s at (named t i j S (get_elem? (on_side t S) i)) m) → Moves T items s at (obey (order b) i n S) m
-  reduction t k m e f = let c = means (order b) (Some (Reduction-of t k)) e in rw c.2 (f c.0 c.1)
+  pub reduction : (t : Side) (k : Named) (m : Result Move Fault) → order_of (order b) ≡ Some (Reduction-of t k)
+      → Moves T items s at (named t i (connective_of k) S (get_elem? (on_side t S) i)) m → Moves T items s at (obey (order b) i n S) m
+  reduction t k m e f = rw (means (order b) (Some (Reduction-of t k)) e) f

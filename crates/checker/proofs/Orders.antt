@@ -16,9 +16,11 @@ use Rattle.calculus.specs.Syntax.{Connective}
 use Rattle.calculus.specs.Bytes.{CONNECTIVE, code}
 use Rattle.calculus.specs.Truth.{bit}
 use Rattle.calculus.specs.Derivation.{Order as Command, CLOSE, PAIR, REDUCE, order_code, order}
-use Rattle.calculus.proofs.Spelling.{command_byte}
 use Rattle.calculus.proofs.Derivations.{order_code_lem, order_byte}
-use Rattle.question.proofs.Readers.{connects, connective_range}
+use Rattle.question.specs.declared.connective.Connective.{Connective as Named}
+use Rattle.question.specs.Connectives.{connective_of, command_of}
+use Rattle.question.proofs.Readers.{connective_range}
+use Rattle.question.proofs.Connectives.{is_coded}
 use Rattle.checker.specs.declared.Order.TheVariants.{Close, Pair, Reduce}
 use Rattle.checker.specs.Walks.{order_of}
 
@@ -29,13 +31,11 @@ pub order_pair : (b : ℕ) → b ≡ 0x42 → order_of (order b) ≡ Some Pair
 order_pair b e = rw e
 
 -- A side's commands are n more than the connectives' bytes, which are 2 to 6.
-pub order_reduce : (t : Side) (b n : ℕ) → ((k : Connective) → order_code (REDUCE t k) ≡ n + code (CONNECTIVE k)) → n + 2 ≤ b → b ≤ n + 6
-    → order_of (order b) ≡ Some (Reduce t (b - n))
-order_reduce t b n f h l =
-    let j = connects (b - n) (omega arith) (omega arith) in
-    let i : code (CONNECTIVE j.connective) ≡ b - n = command_byte (b - n) _ j.named in
-    let e : b ≡ order_code (REDUCE t j.connective) = omega (arith, f j.connective) in
-    ap (λ (x : ℕ). order_of (order x)) e ∙ ap order_of (order_code_lem (REDUCE t j.connective)) ∙ ap (λ (x : ℕ). Some (Reduce t x)) i
+pub order_reduce : (t : Side) (b n : ℕ) (k : Named) → ((k : Connective) → order_code (REDUCE t k) ≡ n + code (CONNECTIVE k)) → n ≤ b → b - n ≡ command_of k
+    → order_of (order b) ≡ Some (Reduce t k)
+order_reduce t b n k f h l =
+    let e : b ≡ order_code (REDUCE t (connective_of k)) = omega (arith, f (connective_of k)) in
+    ap (λ (x : ℕ). order_of (order x)) e ∙ ap order_of (order_code_lem (REDUCE t (connective_of k))) ∙ ap (λ (x : Named). Some (Reduce t x)) (is_coded k)
 
 pub order_other : (b : ℕ) → (b ≡ 0x41 → ⊥) → (b ≡ 0x42 → ⊥) → (0x52 ≤ b → b ≤ 0x56 → ⊥) → (0x62 ≤ b → b ≤ 0x66 → ⊥) → order_of (order b) ≡ None
 order_other b h p k l = go (order b) refl

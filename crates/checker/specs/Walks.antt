@@ -4,8 +4,8 @@ use Rattle.std.proofs.Math.Option.{Option as Maybe, none, some}
 use Rattle.calculus.specs.Fold.{fold, SUM}
 use Rattle.calculus.specs.Limits.{ROOM}
 use Rattle.calculus.specs.Syntax.{Sequent, c, size}
-use Rattle.calculus.specs.Bytes.{CONNECTIVE, code}
 use Rattle.calculus.specs.Derivation.{Order as Command, CLOSE, PAIR, REDUCE, Move as Said, fault, waiting, shut, faulty, check}
+use Rattle.question.specs.Connectives.{coded}
 use Rattle.sequent.specs.declared.Running.{Running}
 use Rattle.sequent.specs.Compounds.{premises_at, Reducible}
 use Rattle.checker.specs.Answers.{fault_number, fault_place}
@@ -22,7 +22,7 @@ abbrev pub order_of : Maybe Command → Option Order
 order_of none = None
 order_of (some CLOSE) = Some Close
 order_of (some PAIR) = Some Pair
-order_of (some (REDUCE s k)) = Some (Reduction-of s (code (CONNECTIVE k)))
+order_of (some (REDUCE s k)) = Some (Reduction-of s (coded k))
 
 -- ---- what a command says
 

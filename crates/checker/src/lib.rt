@@ -4,12 +4,13 @@
 ghost use Rattle.std.specs.Prelude.{◌≡◌, ◌↔◌, ◌&&◌, [], ◌∷◌, ◌+◌, ◌≤◌, length, get_or};
 ghost use Rattle.std.proofs.Math.Option.{some};
 ghost use Rattle.std.proofs.Math.ListN.{get_elem?};
-ghost use Rattle.calculus.specs.Syntax.{Connective, on_side, size};
-ghost use Rattle.calculus.specs.Bytes.{CONNECTIVE, code, question};
+ghost use Rattle.calculus.specs.Syntax.{on_side, size};
+ghost use Rattle.calculus.specs.Bytes.{question};
 ghost use Rattle.calculus.specs.Truth.{bit, Valid};
 ghost use Rattle.calculus.specs.Reading.{accepted, reading};
 ghost use Rattle.calculus.specs.Derivation.{PAIR, order, named, pairs, obey, Derivation};
 ghost use Rattle.calculus.specs.Reply.{check_reply};
+ghost use Rattle.question.specs.Connectives.{connective_of};
 ghost use Rattle.sequent.specs.View.{Good, sequent_of};
 ghost use Rattle.sequent.specs.Compounds.{premises_at, premise_by, Reducible, Makes};
 ghost use Rattle.checker.specs.Answers.{fault_number, fault_place, check_of};
@@ -17,7 +18,7 @@ ghost use Rattle.checker.specs.declared.NotPassed.TheVariants.{Refused, Faulty};
 ghost use Rattle.checker.specs.Walks.{order_of, Moves, Roomy, Walks, Tallied};
 
 use calculus::Side;
-use question::{LETTERS, Question, Refusal};
+use question::{Connective, LETTERS, Question, Refusal};
 use sequent::{Names, Placing, Reduction, Running};
 
 // What is wrong with a derivation, and the place of the command, or of the first byte left over.
@@ -87,13 +88,12 @@ impl From<Fault> for NotPassed {
     }
 }
 
-// A command: close by a letter or by equal formulas, or reduce a connective, given by its own command, the byte that a node holds, on
-// a side.
+// A command: close by a letter or by equal formulas, or reduce a connective on a side.
 #[derive(Clone, Copy)]
 enum Order {
     Close,
     Pair,
-    Reduce(Side, u8),
+    Reduce(Side, Connective),
 }
 
 // What a command that is not at fault says of the sequent that waits: closed by two bytes, closed by three, or a reduction to make.
@@ -118,8 +118,8 @@ fn order_of(b: u8) -> Option<Order>
     match b {
         0x41 => Some(Order::Close),
         0x42 => Some(Order::Pair),
-        0x52..=0x56 => Some(Order::Reduce(Side::Left, b - 0x50)),
-        0x62..=0x66 => Some(Order::Reduce(Side::Right, b - 0x60)),
+        0x52..=0x56 => Some(Order::Reduce(Side::Left, Connective::try_from(b - 0x50).unwrap())),
+        0x62..=0x66 => Some(Order::Reduce(Side::Right, Connective::try_from(b - 0x60).unwrap())),
         _ => None,
     }
 }
@@ -141,18 +141,17 @@ fn closes(s: Running, letter: u8) -> bool
     in_mask(s.leftmask, letter) && in_mask(s.rightmask, letter)
 }
 
-// The reduction of the formula at a place of a side, if that has the connective whose command is b.
+// The reduction of the formula at a place of a side, if that has the connective.
 fn formula_named(
     t: Names<'_>,
     s: Running,
     side: Side,
-    b: u8,
+    connective: Connective,
     place: u8,
     at: usize,
 ) -> Result<Move, Fault>
     requires { Good t.nodes.now t.items.now s × Roomy (sequent_of t.nodes.now t.items.now s) }
-    ensures { (k : Connective) → code (CONNECTIVE k) ≡ b
-        → Moves
+    ensures { Moves
         t.entry.nodes.now
         t.entry.items.now
         s
@@ -160,7 +159,7 @@ fn formula_named(
         (named
         side
         place
-        k
+        (connective_of connective)
         (sequent_of t.entry.nodes.now t.entry.items.now s)
         (get_elem? (on_side side (sequent_of t.entry.nodes.now t.entry.items.now s)) place))
         result }
@@ -174,7 +173,7 @@ fn formula_named(
         return Err(Fault::OtherConnective(at));
     }
     let r = s.reduction(t, side, i);
-    if r.command() != b {
+    if r.connective() != connective {
         return Err(Fault::OtherConnective(at));
     }
     Ok(Move::Reduce(r))

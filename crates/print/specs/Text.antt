@@ -1,20 +1,13 @@
 -- Text as bytes: words, numbers in decimal, bytes in hexadecimal, and a line of a word and numbers.
-use Rattle.std.specs.Prelude.{List, [], ◌∷◌, ◌++◌, ℕ, zero, suc, ◌/◌, ◌%◌, false}
+use Rattle.std.specs.Prelude.{List, [], ◌∷◌, ◌++◌, ℕ, zero, suc, ◌/◌, ◌%◌, false, codes}
 use Rattle.std.specs.List.{flat_map}
 use Rattle.std.specs.Fmt.{digit_glyph}
-use Prim.Native.Char.{code}
-use Prim.Native.String.{String, [] as end, ◌∷◌ as ◌then◌}
-
--- the bytes of a word
-abbrev pub ascii : String → List ℕ
-ascii end = []
-ascii (a then s) = code a ∷ ascii s
 
 abbrev pub blank : List ℕ
-blank = code " " ∷ []
+blank = codes " "
 
 abbrev pub newline : List ℕ
-newline = code "\n" ∷ []
+newline = codes "\n"
 
 -- things written one after the other, a blank before each
 abbrev pub spaced : (ℕ → List ℕ) → List ℕ → List ℕ
@@ -31,7 +24,8 @@ abbrev pub decimal_by : ℕ → ℕ → List ℕ
 decimal_by zero n = []
 decimal_by (suc k) n = leading (λ m. decimal_by k m) (n / 10) ++ (digit_glyph false (n % 10) ∷ [])
 
--- a number's digits, the most significant first. It has at most n + 1, so the fuel does not run out.
+-- a number's digits, the most significant first. It has at most n + 1, so the fuel does not run out. (std's `decimal` has
+-- 64 digits at most; this one has all, and is the same below 2 to the 64: `Texts.decimal_shown`.)
 unfoldable pub decimal : ℕ → List ℕ
 decimal n = decimal_by (suc n) n
 

@@ -1,9 +1,9 @@
 // What the programs print: a line of a word and numbers, bytes in hexadecimal, and the line of a refusal.
 #![tactic(auto)]
 
-ghost use Rattle.std.specs.Prelude.{[], ◌∷◌, Some};
+ghost use Rattle.std.specs.Prelude.{[], ◌∷◌, Some, codes};
 ghost use Rattle.question.specs.Answers.{number_of, place_of};
-ghost use Rattle.print.specs.Text.{ascii, line, hexadecimal};
+ghost use Rattle.print.specs.Text.{line, hexadecimal};
 
 use question::Refusal;
 use std::fmt;
@@ -51,7 +51,7 @@ impl fmt::Display for Hexadecimal<'_> {
 pub struct Refused(pub Refusal);
 
 impl fmt::Display for Refused {
-    ghost output = { λ r. Some (line (ascii "refused") (number_of r.0 ∷ place_of r.0 ∷ [])) };
+    ghost output = { λ r. Some (line (codes "refused") (number_of r.0 ∷ place_of r.0 ∷ [])) };
 
     fn fmt<W: fmt::Write>(&self, f: &mut fmt::Formatter<W>) -> fmt::Result {
         let number = self.0.number();

@@ -15,7 +15,10 @@ ghost use Rattle.question.specs.Answers.{number_of, place_of, reading_of};
 ghost use Rattle.question.specs.Answers.{expected_of, done, Standing, Onwards, read_from, steps};
 ghost use Rattle.question.specs.Positions.{Well, end_of, due_after, Reached, Marks, part_bytes, part_at};
 
+mod connective;
+
 use calculus::{Expected, Part, Side};
+pub use connective::{Binary, Connective, NoConnective};
 
 // The limits of document 01.
 pub const LONGEST_QUESTION: usize = 212;

@@ -5,9 +5,10 @@ ghost use Rattle.std.specs.Prelude.{◌≡◌, [], ◌∷◌, ◌++◌, ◌+◌,
 ghost use Rattle.std.proofs.Math.Seq.{slice};
 ghost use Rattle.calculus.specs.declared.Side.TheVariants.{Left, Right};
 ghost use Rattle.calculus.specs.Limits;
-ghost use Rattle.calculus.specs.Syntax.{Connective, size};
+ghost use Rattle.calculus.specs.Syntax.{Connective as Defined, size};
 ghost use Rattle.calculus.specs.Bytes.{CONNECTIVE, code};
 ghost use Rattle.calculus.specs.Table.{premise};
+ghost use Rattle.question.specs.Connectives.{connective_of, command_of};
 ghost use Rattle.sequent.specs.Names.{first_of, second_of};
 ghost use Rattle.sequent.specs.Rule.{rule_of, goes_to, keep, parts_on, placed};
 ghost use Rattle.sequent.specs.View.{view, count_of, slot_of, end_of, start_of, bit_of, compound_bit};
@@ -16,7 +17,7 @@ ghost use Rattle.sequent.specs.Passes.{Fits, Stored, Builds};
 ghost use Rattle.sequent.specs.Compounds.{Clear, Found, Stands, Paired, rule_for, reduction_at};
 
 use calculus::Side;
-use question::LETTERS;
+use question::{Binary, Connective, LETTERS};
 
 // How many formulas stand on each side, the letters of each side, a bit each, and a set that holds the compounds of each side: it
 // only grows, so it holds reduced ones too. The names of the formulas, the left side's and then the right side's, are lent beside
@@ -123,13 +124,17 @@ static RULES: [[&[Placing]; 2]; 5] = [
     ],
 ];
 
-// The rule of the connective whose command is b, on a side. A node holds that byte, which picks the row as it is: an enum would be
-// made of it for this alone.
-fn rule_of(b: u8, side: Side) -> &'static [Placing]
-    requires { (2 ≤ b) × (b ≤ 6) }
-    ensures { (k : Connective) → code (CONNECTIVE k) ≡ b → result.now ≡ rule_of k side }
+// The rule of a connective on a side.
+fn rule_of(k: Connective, side: Side) -> &'static [Placing]
+    ensures { result.now ≡ rule_of (connective_of k) side }
 {
-    let i = usize::from(b - 2);
+    let i = match k {
+        Connective::Not => 0,
+        Connective::Two(Binary::And) => 1,
+        Connective::Two(Binary::Or) => 2,
+        Connective::Two(Binary::Implies) => 3,
+        Connective::Two(Binary::Equiv) => 4,
+    };
     let j = match side {
         Side::Left => 0,
         Side::Right => 1,
@@ -152,12 +157,20 @@ impl Reduction {
         low(self.node)
     }
 
+    // The compound's connective: a node holds its command.
+    pub fn connective(self) -> Connective
+        requires { (k : Defined) × (code (CONNECTIVE k) ≡ self.node % 256) }
+        ensures { command_of result ≡ self.node % 256 }
+    {
+        Connective::try_from(self.command()).unwrap()
+    }
+
     // The row of the table that it goes by: where the parts go in each premise.
     pub fn rule(self) -> &'static [Placing]
-        requires { (k : Connective) × (code (CONNECTIVE k) ≡ self.node % 256) }
+        requires { (k : Defined) × (code (CONNECTIVE k) ≡ self.node % 256) }
         ensures { result.now ≡ rule_for self }
     {
-        rule_of(low(self.node), self.side)
+        rule_of(self.connective(), self.side)
     }
 }
 

@@ -19,11 +19,11 @@ use Rattle.calculus.proofs.Spelling.{code_injective}
 use Rattle.question.specs.Positions.{Well, formula_at, end_of}
 use Rattle.question.proofs.Readers.{connective_range}
 use Rattle.question.proofs.Parts.{LetterAt, FirstAt, NotAt, TwoAt, letter_at, first_at, not_at, two_at}
-use Rattle.width.specs.declared.connective.Binary.{Binary as Joins}
-use Rattle.width.specs.declared.connective.Binary.TheVariants.{And, Or, Implies, Equiv}
-use Rattle.width.specs.declared.connective.Connective.{Connective as Named}
-use Rattle.width.specs.declared.connective.Connective.TheVariants.{Not, Two}
-use Rattle.width.specs.Connectives.{binary_of, connective_of, command_of}
+use Rattle.question.specs.declared.connective.Binary.{Binary as Joins}
+use Rattle.question.specs.declared.connective.Binary.TheVariants.{And, Or, Implies, Equiv}
+use Rattle.question.specs.declared.connective.Connective.{Connective as Named}
+use Rattle.question.specs.declared.connective.Connective.TheVariants.{Not, Two}
+use Rattle.question.specs.Connectives.{binary_of, connective_of, command_of}
 use Rattle.width.specs.declared.Pair.{Pair}
 use Rattle.width.specs.declared.Walked.{Walked}
 use Rattle.width.specs.Walks.{side_of, exchanged, joined, Fit, pair_of, walk_of}

@@ -7,14 +7,12 @@ ghost use Rattle.calculus.specs.Syntax.{on_side, connectives};
 ghost use Rattle.calculus.specs.Bytes.{formulas, question, side_start};
 ghost use Rattle.calculus.specs.Reply.{width_reply};
 ghost use Rattle.question.specs.Positions.{Well, formula_at};
-ghost use Rattle.width.specs.Connectives.{binary_of, command_of};
+ghost use Rattle.question.specs.Connectives.{binary_of, command_of};
 ghost use Rattle.width.specs.Walks.{Fit, side_of, exchanged, joined, walk_of, product_of};
 ghost use Rattle.width.specs.Answers.{width_of, Sized};
 
-mod connective;
-
 use calculus::Side;
-pub use connective::{Binary, Connective, NoConnective};
+pub use question::{Binary, Connective, NoConnective};
 use question::{Question, Refusal};
 
 // A formula's pair of widths, on the left and on the right.

@@ -4,11 +4,12 @@
 ghost use Rattle.std.specs.Prelude.{◌≡◌, [], ◌∷◌, ◌≤◌, length, take, IfOk};
 ghost use Rattle.std.proofs.lemmas.List.Edits.{sets};
 ghost use Rattle.calculus.specs.Fold.{fold, SUM, Each};
-ghost use Rattle.calculus.specs.Syntax.{Connective, size};
-ghost use Rattle.calculus.specs.Bytes.{CONNECTIVE, code, question};
+ghost use Rattle.calculus.specs.Syntax.{size};
+ghost use Rattle.calculus.specs.Bytes.{question};
 ghost use Rattle.calculus.specs.Derivation.{PAIR, REDUCE, order_code, derivation};
 ghost use Rattle.calculus.specs.Reply.{derive};
 ghost use Rattle.calculus.specs.Tree.{tree};
+ghost use Rattle.question.specs.Connectives.{connective_of};
 ghost use Rattle.sequent.specs.View.{view, sequent_of, Good};
 ghost use Rattle.sequent.specs.Compounds.{Clear, FoundAt, premises_at, premise_by, Makes};
 ghost use Rattle.prover.specs.Inner.{First};
@@ -18,7 +19,7 @@ ghost use Rattle.writer.specs.Emits.{Provable, derivations, Emits};
 
 use calculus::{Kind, Side, Verdict};
 use prover::Finding;
-use question::{Question, Refusal};
+use question::{Connective, Question, Refusal};
 use sequent::{Names, Placing, Reduction, Running};
 
 // A derivation that is written: its length, and the verdict.
@@ -73,14 +74,14 @@ fn put_pair(out: &mut [u8], left: u8, right: u8) -> usize
     3
 }
 
-// The command that reduces a connective, whose byte in the node is b, on a side: the derivation has that byte in it.
-fn command_of(side: Side, b: u8) -> u8
-    requires { b ≤ 6 }
-    ensures { (k : Connective) → code (CONNECTIVE k) ≡ b → result ≡ order_code (REDUCE side k) }
+// The command that reduces a connective on a side.
+fn command_of(side: Side, k: Connective) -> u8
+    ensures { result ≡ order_code (REDUCE side (connective_of k)) }
 {
+    let low = u8::from(k);
     match side {
-        Side::Left => 0x50 + b,
-        Side::Right => 0x60 + b,
+        Side::Left => 0x50 + low,
+        Side::Right => 0x60 + low,
     }
 }
 
@@ -99,7 +100,7 @@ fn emit(t: Names<'_>, s: Running, from: usize, out: &mut [u8]) -> usize
         Finding::Closed(k) => put(out, 0x41, k as u8),
         Finding::Paired(i, j) => put_pair(out, i as u8, j as u8),
         Finding::Reduce(r) => {
-            let n = put(out, command_of(r.side, r.command()), r.at as u8);
+            let n = put(out, command_of(r.side, r.connective()), r.at as u8);
             n + emit_premises(t, s, r, &mut out[n..]).length
         }
         _ => unreachable!(),

@@ -4,10 +4,10 @@ use Rattle.calculus.specs.Syntax.{connectives}
 use Rattle.question.specs.Positions.{Well, formula_at}
 use Rattle.question.proofs.Walks.{well_inside}
 use Rattle.question.proofs.Parts.{TwoAt, end_onward}
-use Rattle.width.specs.declared.connective.Binary.{Binary}
-use Rattle.width.specs.declared.connective.Connective.{Connective}
-use Rattle.width.specs.declared.connective.Connective.TheVariants.{Two}
-use Rattle.width.specs.Connectives.{binary_of, command_of}
+use Rattle.question.specs.declared.connective.Binary.{Binary}
+use Rattle.question.specs.declared.connective.Connective.{Connective}
+use Rattle.question.specs.declared.connective.Connective.TheVariants.{Two}
+use Rattle.question.specs.Connectives.{binary_of, command_of}
 use Rattle.width.proofs.Walks.{Room, fit, no_command, first_part, not_part, two_parts, first_less, walk_letter, walk_not, walk_two}
 use Rattle.width.proofs.+part_widths_widths.Goals as goal
 

@@ -2,10 +2,10 @@ use Rattle.std.proofs.Common.{◌^◌, ◌<◌, length, sym, ap, ◌∙◌, arit
 use lib.Seq.{sets}
 use Rattle.calculus.specs.declared.Side.TheVariants.{Left}
 use Rattle.calculus.specs.Limits.{LETTERS}
-use Rattle.calculus.specs.Syntax.{Sequent, c as connectives_of}
-use Rattle.calculus.specs.Derivation.{derivation}
+use Rattle.calculus.specs.Syntax.{Connective, Sequent, c as connectives_of}
+use Rattle.calculus.specs.Derivation.{REDUCE, order_code, derivation}
 use Rattle.calculus.specs.Tree.{tree}
-use Rattle.question.proofs.Readers.{connective_range}
+use Rattle.question.proofs.Connectives.{one_command}
 use Rattle.sequent.specs.View.{view, sequent_of}
 use Rattle.sequent.specs.Compounds.{compound_at}
 use Rattle.sequent.proofs.Goods.{masks_state, command_made, place_small, premise_asks}
@@ -23,12 +23,12 @@ emit-overflow_cast-k t c =
     let small = rw (masks_state a.t.nodes.now a.t.items.now a.s c.requires.0 Left) at low in
     omega (arith, closed_small S c.in-Closed.k c.in-Closed.ensures.inner small)
 
-pub emit-command_of-requires : goal.emit-command_of-requires
-emit-command_of-requires t c =
+pub emit-connective-requires : goal.emit-connective-requires
+emit-connective-requires t c =
     let a = c.args in
     let r = c.in-Reduce.r in
     let w = c.in-Reduce.ensures.ready in
-    rw (c.command.ensures ∙ command_made a.t.nodes.now a.t.items.now a.s c.requires.0 r w.can) (connective_range (compound_at a.t.nodes.now r.side r.at (view a.s a.t.items.now)).connective).1
+    ((compound_at a.t.nodes.now r.side r.at (view a.s a.t.items.now)).connective, sym (command_made a.t.nodes.now a.t.items.now a.s c.requires.0 r w.can))
 
 pub emit-overflow_cast-r : goal.emit-overflow_cast-r
 emit-overflow_cast-r t c =
@@ -67,7 +67,8 @@ emit-returns-in-Reduce t c =
     let r = c.in-Reduce.r in
     let w = c.in-Reduce.ensures in
     let p = c.put-n in
-    let command = c.command_of.ensures _ (sym (c.command.ensures ∙ command_made a.t.nodes.now a.t.items.now a.s h.0 r w.ready.can)) in
+    let k = one_command c.connective.result _ (c.connective.ensures ∙ command_made a.t.nodes.now a.t.items.now a.s h.0 r w.ready.can) in
+    let command = c.command_of.ensures ∙ ap (λ (l : Connective). order_code (REDUCE r.side l)) k in
     due_written w h.2 a.out.now h.3 _ command p.result p.ensures.0 p.new.out p.ensures.1 c.emit_premises.ensures
 
 pub emit-unreachable-requires : goal.emit-unreachable-requires

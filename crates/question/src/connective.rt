@@ -1,7 +1,8 @@
 // The connectives, and the bytes that are their commands.
-ghost use Rattle.width.specs.Connectives.{Names};
+ghost use Rattle.std.specs.Prelude.{◌≡◌};
+ghost use Rattle.question.specs.Connectives.{Names, command_of};
 
-#[derive(Clone, Copy)]
+#[derive(Clone, Copy, PartialEq, Eq)]
 pub enum Binary {
     And,
     Or,
@@ -9,7 +10,7 @@ pub enum Binary {
     Equiv,
 }
 
-#[derive(Clone, Copy)]
+#[derive(Clone, Copy, PartialEq, Eq)]
 pub enum Connective {
     Not,
     Two(Binary),
@@ -32,6 +33,20 @@ impl TryFrom<u8> for Connective {
             5 => Ok(Connective::Two(Binary::Implies)),
             6 => Ok(Connective::Two(Binary::Equiv)),
             _ => Err(NoConnective),
+        }
+    }
+}
+
+impl From<Connective> for u8 {
+    ghost from_gives = { λ k b. b ≡ command_of k };
+
+    fn from(k: Connective) -> u8 {
+        match k {
+            Connective::Not => 2,
+            Connective::Two(Binary::And) => 3,
+            Connective::Two(Binary::Or) => 4,
+            Connective::Two(Binary::Implies) => 5,
+            Connective::Two(Binary::Equiv) => 6,
         }
     }
 }

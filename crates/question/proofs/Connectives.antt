@@ -1,0 +1,44 @@
+-- The code's connectives are those of document 01.
+-- Assumes nothing.
+use Rattle.std.proofs.Common.{◌≡◌, refl, sym, ap, ◌∙◌, ℕ, ◌≤◌}
+use Rattle.std.specs.Prelude.{Result, Ok, Err}
+use Rattle.std.specs.Result.{IsOk}
+use Rattle.calculus.specs.Syntax.{AND, OR, IMPLIES, EQUIV, Connective as Defined, NOT, two}
+use Rattle.calculus.specs.Bytes.{CONNECTIVE, code}
+use Rattle.calculus.proofs.Spelling.{command_byte, code_injective}
+use Rattle.question.specs.declared.connective.Binary.TheVariants.{And, Or, Implies, Equiv}
+use Rattle.question.specs.declared.connective.Connective.{Connective}
+use Rattle.question.specs.declared.connective.Connective.TheVariants.{Not, Two}
+use Rattle.question.specs.declared.connective.NoConnective.{NoConnective}
+use Rattle.question.specs.Connectives.{connective_of, command_of, coded, Names}
+use Rattle.question.proofs.Readers.{connects}
+
+pub coded_is : (k : Defined) → connective_of (coded k) ≡ k
+coded_is NOT = refl
+coded_is (two AND) = refl
+coded_is (two OR) = refl
+coded_is (two IMPLIES) = refl
+coded_is (two EQUIV) = refl
+
+pub is_coded : (j : Connective) → coded (connective_of j) ≡ j
+is_coded Not = refl
+is_coded (Two And) = refl
+is_coded (Two Or) = refl
+is_coded (Two Implies) = refl
+is_coded (Two Equiv) = refl
+
+-- the command of a connective is read
+pub reads : (b : ℕ) (r : Result Connective NoConnective) → Names b r → (k : Defined) → code (CONNECTIVE k) ≡ b → IsOk r
+reads b (Ok j) n k e = refl
+reads b (Err x) n k e = absurd (n (coded k) (sym e ∙ ap (λ (l : Defined). code (CONNECTIVE l)) (sym (coded_is k))))
+
+-- so are the bytes 2 to 6
+pub reads_low : (b : ℕ) (r : Result Connective NoConnective) → Names b r → 2 ≤ b → b ≤ 6 → IsOk r
+reads_low b r n h k = let c = connects b h k in reads b r n c.connective (command_byte b (CONNECTIVE c.connective) c.named)
+
+-- a command is that of one connective
+pub one_command : (j : Connective) (k : Defined) → command_of j ≡ code (CONNECTIVE k) → connective_of j ≡ k
+one_command j k e = cc (code_injective (CONNECTIVE (connective_of j)) (CONNECTIVE k) e)
+
+pub same_connective : (j k : Connective) → command_of j ≡ command_of k → j ≡ k
+same_connective j k e = sym (is_coded j) ∙ ap coded (one_command j (connective_of k) e) ∙ is_coded k
