@@ -2,30 +2,34 @@
 -- Assumes nothing.
 use mathlib.Core.Path.{◌≡◌, refl, sym, ap, ◌∙◌, subst}
 use mathlib.Core.Bool.{Bool, true, false}
-use mathlib.Core.Option.{none, some}
+use mathlib.Core.Option.{Option, none, some}
 use mathlib.Core.List.{List, [], ◌∷◌}
-use Prim.Native.Nat.{ℕ, zero, suc, ◌+◌, ◌%◌, ◌≤◌, ◌<◌}
+use Prim.Native.Nat.{ℕ, zero, suc, ◌+◌, ◌%◌, ◌^◌, ◌≤◌, ◌<◌}
 use native.Mathlib.Omega.{arith}
 use lib.Dec.{ltb}
+use lib.Bits.{bit_and}
+use lib.Count.{count_trailing_zeros}
 use borrow.Author.Tests.{ltb-false}
 use Rattle.calculus.specs.declared.Side.{Side}
 use Rattle.calculus.specs.declared.Side.TheVariants.{Left, Right}
 use Rattle.calculus.specs.Fold.{fold, ANY, Each, choose}
 use Rattle.calculus.specs.Limits.{ROOM, LETTERS}
-use Rattle.calculus.specs.Syntax.{Connective, Sequent, size}
+use Rattle.calculus.specs.Syntax.{Connective, Formula, Sequent, size}
 use Rattle.calculus.specs.Bytes.{CONNECTIVE, code}
 use Rattle.calculus.specs.Table.{premises}
-use Rattle.calculus.specs.Tree.{letters, state, Way, closing, first, due, tests, full, reduced, is_closed, is_open, is_full, is_spent, is_due, afford, inner}
+use Rattle.calculus.specs.Tree.{letters, state, common, twins, either, Way, lettered, paired, closing, first, due, tests, full, reduced, is_closed, is_open, is_full, is_spent, is_due, afford, inner}
 use Rattle.calculus.proofs.Folds.{or_false_both}
 use Rattle.sequent.specs.declared.Running.{Running}
 use Rattle.sequent.specs.declared.Reduction.{Reduction}
-use Rattle.std.specs.Prelude.{None}
+use Rattle.std.specs.Prelude.{Some, None}
+use Rattle.sequent.specs.declared.Pair.{Pair}
 use Rattle.sequent.specs.Rule.{overfull_of}
 use Rattle.sequent.specs.View.{view, count_of, name_at, sequent_of, Good}
-use Rattle.sequent.specs.Compounds.{FoundAt, Found, EqualAt, compound_at, rule_for, reduction_at}
+use Rattle.sequent.specs.Compounds.{FoundAt, Found, Paired, compound_at, rule_for, reduction_at}
 use Rattle.sequent.proofs.Restarts.{found_inside, found_name}
-use Rattle.sequent.proofs.Goods.{held, slot_name, compounded, full_is, found_left, found_right, found_nowhere}
+use Rattle.sequent.proofs.Goods.{held, slot_name, compounded, full_is, masks_state, twins_are, found_left, found_right, found_nowhere}
 use Rattle.prover.specs.Inner.{ReadyAt}
+use Rattle.prover.proofs.Closings.{no_common, lowest_common}
 
 -- ---- FULL
 
@@ -94,11 +98,34 @@ module _ {T items : List ℕ} {s : Running} (good : Good T items s) (t : Side) (
 -- ---- the tests in their order
 
 module _ {T items : List ℕ} {s : Running} (good : Good T items s) (left : ℕ) where
-  pub pair_small : (i j : ℕ) → EqualAt (view s items) i j → (i < ROOM) × (j < ROOM)
-  pair_small i j e = (omega (arith, e.left, held T items s good Left, good.room), omega (arith, e.right, held T items s good Right, good.room))
+  abbrev lefts : List Formula
+  lefts = (sequent_of T items s).on_left
 
-  pub inner_closed : (w : Way) → closing (sequent_of T items s) ≡ some w → is_closed w ≡ inner left (sequent_of T items s)
-  inner_closed w e = ap (λ o. afford left (tests (sequent_of T items s) o (first (sequent_of T items s).on_left) (first (sequent_of T items s).on_right))) (sym e)
+  abbrev rights : List Formula
+  rights = (sequent_of T items s).on_right
+
+  closed_by : (w : Way) → closing (sequent_of T items s) ≡ some w → is_closed w ≡ inner left (sequent_of T items s)
+  closed_by w e = ap (λ o. afford left (tests (sequent_of T items s) o (first lefts) (first rights))) (sym e)
+
+  -- a letter stands on both sides
+  pub inner_lettered : s.leftmask < 2 ^ LETTERS → s.rightmask < 2 ^ LETTERS → (bit_and s.leftmask s.rightmask ≡ 0 → ⊥)
+      → is_closed (lettered (count_trailing_zeros LETTERS (bit_and s.leftmask s.rightmask))) ≡ inner left (sequent_of T items s)
+  inner_lettered l r n =
+      closed_by _ (ap (λ (o : Option ℕ). either o (twins lefts rights)) (lowest_common (letters lefts) (letters rights) s.leftmask s.rightmask (masks_state T items s good Left) (masks_state T items s good Right) l r n))
+
+  -- no letter does
+  module _ (apart : bit_and s.leftmask s.rightmask ≡ 0) where
+    none_shared : common (letters lefts) (letters rights) ≡ none
+    none_shared = no_common (letters lefts) (letters rights) s.leftmask s.rightmask (masks_state T items s good Left) (masks_state T items s good Right) apart
+
+    pub not_closed : Paired (view s items) None → closing (sequent_of T items s) ≡ none
+    not_closed h = rw (none_shared, twins_are T items s good None h)
+
+    pub inner_paired : (p : Pair) → Paired (view s items) (Some p) → (is_closed (paired p.left p.right) ≡ inner left (sequent_of T items s)) × ((p.left < ROOM) × (p.right < ROOM))
+    inner_paired p h = (
+      closed_by (paired p.left p.right) (rw (none_shared, twins_are T items s good (Some p) h)),
+      (omega (arith, h.0.left, held T items s good Left, good.room), omega (arith, h.0.right, held T items s good Right, good.room)),
+    )
 
   pub inner_due : closing (sequent_of T items s) ≡ none → (t : Side) (i : ℕ) → FoundAt (view s items) t i
       → afford left (due (sequent_of T items s) t i (compound_at T t i (view s items))) ≡ inner left (sequent_of T items s)

@@ -140,23 +140,17 @@ fn run(t: Names<'_>, s: Running, from: usize, left: u64) -> Outcome
     }
 }
 
-// A premise of the reduction, made in a list that is lent for it, and run.
+// A premise of the reduction, made and run.
 #[cycle(reduce_run_run_premise)]
-fn run_premise(
-    t: Names<'_>,
-    s: Running,
-    r: Reduction,
-    p: Placing,
-    left: u64,
-    next: &mut [u8; 80],
-) -> Reduced
+fn run_premise(t: Names<'_>, s: Running, r: Reduction, p: Placing, left: u64) -> Reduced
     requires { Makes t.nodes.now t.items.now s r p
         × FoundAt (view s t.items.now) r.side r.at
         × (c (sequent_of t.nodes.now t.items.now s) ≤ CONNECTIVES) }
     ensures { Ran left (premise_by t.entry.nodes.now t.entry.items.now s r p) result }
 {
-    let made = s.premise(t.items, next, r, p);
-    let t = Names { items: next, ..t };
+    let mut next = [0u8; 80];
+    let made = s.premise(t.items, &mut next, r, p);
+    let t = Names { items: &next, ..t };
     let outcome = run(t, made.running, s.start(r.side, r.at), left);
     Reduced {
         outcome,
@@ -174,9 +168,8 @@ fn reduce(t: Names<'_>, s: Running, r: Reduction, left: u64) -> Reduced
     let rule = r.rule();
     let mut o = ended(Kind::Theorem, left, 0, 0);
     let mut stores = 0;
-    let mut next = [0u8; 80];
     for &p in rule {
-        let m = run_premise(t, s, r, p, o.unspent, &mut next);
+        let m = run_premise(t, s, r, p, o.unspent);
         stores += m.stores;
         o = Outcome {
             closings: o.closings + m.outcome.closings,

@@ -85,9 +85,9 @@ module _ (q : List ℕ) (b : ℕ) (a : reading q ≡ accepted) (o : Outcome) (e 
   pub theorem_is : v.kind ≡ Theorem → IsTheorem (question q) v o.pairings
   theorem_is k = subst (λ (u : Verdict). IsTheorem (question q) u o.pairings) (sym d) (is_theorem_lem b (question q) o e (ap (λ (u : Verdict). u.kind) (sym d) ∙ k))
 
-  pub theorem_evidence : (old new : List ℕ) (r : Result Written NotWritten) → v.kind ≡ Theorem → WrittenOut (question q) v old new r
+  pub theorem_evidence : v.kind ≡ Theorem → {old new : List ℕ} {r : Result Written NotWritten} → WrittenOut (question q) v old new r
       → IfOk r (λ u. (u.verdict.kind ≡ Theorem) × Evidence q (take u.length new))
-  theorem_evidence old new r k w =
+  theorem_evidence k {old} {new} {r} w =
       let p = (theorem_is k).proved in
       IfOk-weaker r (λ u. (u.verdict ≡ v) × (take u.length new ≡ derivation (question q))) (λ u. (u.verdict.kind ≡ Theorem) × Evidence q (take u.length new))
       (λ u t. (

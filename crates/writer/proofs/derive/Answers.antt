@@ -16,4 +16,4 @@ returns-clause-evidence c =
     let q = c.in_ok-q in
     let o = c.outcome_of-o in
     let v = c.report-v in
-    rw (← q.ensures.bytes) (theorem_evidence q.q.bytes.now c.args.budget q.q.accepted o.result o.ensures v.result v.ensures c.args.buffer.now _ c.write_out.result c.in-Theorem.is c.write_out.ensures)
+    rw (← q.ensures.bytes) (theorem_evidence q.q.bytes.now c.args.budget q.q.accepted o.result o.ensures v.result v.ensures c.in-Theorem.is c.write_out.ensures)
