@@ -17,7 +17,7 @@ ghost use Rattle.prover.specs.Answers.{decision_of, Promised};
 ghost use Rattle.prover.specs.Inner.{inner_of, Ready, Stepped, First};
 ghost use Rattle.prover.specs.Runs.{ended, Ran, Comes};
 
-use calculus::{Kind, Outcome, Verdict};
+use calculus::{Kind, Outcome, Side, Verdict};
 use question::{Question, Refusal};
 use sequent::{Names, Place, Placing, ROOM, Reduction, Running};
 
@@ -43,13 +43,23 @@ pub struct Reduced {
     pub stores: usize,
 }
 
-// How many parts each premise of a reduction places. Both premises of a rule place as many.
+// How many parts each premise of a reduction places, on the left and on the right: a digit for each connective, at its command. Read off
+// the table of rules, the inner step is no longer part of the run, which then takes 1.2 to 1.5 times as long.
+const LEFT: u32 = 0x2_1_1_2_1_0_0;
+
+const RIGHT: u32 = 0x2_2_2_1_1_0_0;
+
+// The same of a reduction. Both premises of a rule place as many.
 fn placed(r: Reduction) -> usize
     requires { (k : Connective) × (code (CONNECTIVE k) ≡ r.node % 256) }
     ensures { Each (λ p. size (premise_of p) ≡ result) (rule_for r) }
 {
-    let p = r.rule()[0];
-    usize::from(p.f.is_some()) + usize::from(p.g.is_some())
+    let side = r.side;
+    let row = match side {
+        Side::Left => LEFT,
+        Side::Right => RIGHT,
+    };
+    ((row >> (4 * r.command())) % 16) as usize
 }
 
 // Whether a premise of the reduction would hold more formulas than there is room for, n being held now.
