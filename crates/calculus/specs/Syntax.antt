@@ -2,11 +2,17 @@
 use Rattle.std.specs.Prelude.{List, ℕ, suc, ◌+◌}
 use Rattle.calculus.specs.declared.Side.{Side}
 use Rattle.calculus.specs.declared.Side.TheVariants.{Left, Right}
+use Rattle.calculus.specs.declared.Pair.{Pair}
 use Rattle.calculus.specs.Fold.{Monoid, fold, SUM}
 
 abbrev pub other : Side → Side
 other Left = Right
 other Right = Left
+
+-- that of a side, where there is one for each
+abbrev pub side_of : {T : Type 0} → Pair T → Side → T
+side_of p Left = p.left
+side_of p Right = p.right
 
 pub data Binary : Type 0 where
   AND OR IMPLIES EQUIV : Binary

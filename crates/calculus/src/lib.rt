@@ -2,7 +2,7 @@
 #![tactic(auto)]
 
 ghost use Rattle.std.specs.Prelude.{◌≡◌};
-ghost use Rattle.calculus.specs.Syntax.{other};
+ghost use Rattle.calculus.specs.Syntax.{other, side_of};
 
 #[derive(Clone, Copy, PartialEq, Eq)]
 pub enum Side {
@@ -17,6 +17,25 @@ impl Side {
         match self {
             Side::Left => Side::Right,
             Side::Right => Side::Left,
+        }
+    }
+}
+
+// One for each side.
+#[derive(Clone, Copy)]
+pub struct Pair<T> {
+    pub left: T,
+    pub right: T,
+}
+
+impl<T: Copy> Pair<T> {
+    // That of a side.
+    pub fn on(self, side: Side) -> T
+        ensures { result ≡ side_of self side }
+    {
+        match side {
+            Side::Left => self.left,
+            Side::Right => self.right,
         }
     }
 }

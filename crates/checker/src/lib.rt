@@ -18,8 +18,9 @@ ghost use Rattle.checker.specs.declared.NotPassed.TheVariants.{Refused, Faulty};
 ghost use Rattle.checker.specs.Walks.{order_of, Moves, Roomy, Walks, Tallied};
 
 use calculus::Side;
+use names::Lists;
 use question::{Connective, LETTERS, Question, Refusal};
-use sequent::{Names, Placing, Reduction, Running};
+use sequent::{Counted, Names, Order, Place, Placing, ROOM, Reduction, Running};
 
 // What is wrong with a derivation, and the place of the command, or of the first byte left over.
 #[derive(Clone, Copy)]
@@ -88,40 +89,13 @@ impl From<Fault> for NotPassed {
     }
 }
 
-// A command: close by a letter or by equal formulas, or reduce a connective on a side.
-#[derive(Clone, Copy)]
-enum Order {
-    Close,
-    Pair,
-    Reduce(Side, Connective),
-}
-
-// What a command that is not at fault says of the sequent that waits: closed by two bytes, closed by three, or a reduction to make.
+// What a command that is not at fault says of the sequent that waits: closed by two bytes, closed by three, or a reduction to
+// make.
 #[derive(Clone, Copy)]
 enum Move {
     Closed,
     Paired,
     Reduce(Reduction),
-}
-
-// Where the derivations of premises end, or their first fault, and the stores made for the premises.
-#[derive(Clone, Copy)]
-struct Tally {
-    walked: Result<usize, Fault>,
-    stores: usize,
-}
-
-// The command of a byte.
-fn order_of(b: u8) -> Option<Order>
-    ensures { result ≡ order_of (order b) }
-{
-    match b {
-        0x41 => Some(Order::Close),
-        0x42 => Some(Order::Pair),
-        0x52..=0x56 => Some(Order::Reduce(Side::Left, Connective::try_from(b - 0x50).unwrap())),
-        0x62..=0x66 => Some(Order::Reduce(Side::Right, Connective::try_from(b - 0x60).unwrap())),
-        _ => None,
-    }
 }
 
 // Whether a letter is among those of a mask.
@@ -136,9 +110,9 @@ fn in_mask(mask: u64, letter: u8) -> bool
 
 // Whether a letter stands on both sides.
 fn closes(s: Running, letter: u8) -> bool
-    ensures { result ≡ (bit letter s.leftmask && bit letter s.rightmask) }
+    ensures { result ≡ (bit letter s.left.mask && bit letter s.right.mask) }
 {
-    in_mask(s.leftmask, letter) && in_mask(s.rightmask, letter)
+    in_mask(s.left.mask, letter) && in_mask(s.right.mask, letter)
 }
 
 // The reduction of the formula at a place of a side, if that has the connective.
@@ -164,15 +138,18 @@ fn formula_named(
         (get_elem? (on_side side (sequent_of t.entry.nodes.now t.entry.items.now s)) place))
         result }
 {
-    let i = usize::from(place);
-    if s.count(side) <= i {
+    let p = Place {
+        side,
+        at: usize::from(place),
+    };
+    if s.count(side) <= p.at {
         return Err(Fault::NoFormula(at));
     }
-    let k = s.slot(side, i);
+    let k = s.slot(p);
     if t.items[k] < LETTERS {
         return Err(Fault::OtherConnective(at));
     }
-    let r = s.reduction(t, side, i);
+    let r = s.reduction(t, p);
     if r.connective() != connective {
         return Err(Fault::OtherConnective(at));
     }
@@ -195,14 +172,14 @@ fn pairs(t: Names<'_>, s: Running, left: u8, right: u8, at: usize) -> Result<Mov
     let i = usize::from(left);
     let j = usize::from(right);
     let missing = Err(Fault::NoFormula(at));
-    if s.lefts <= i {
+    if s.left.count <= i {
         return missing;
     }
-    if s.rights <= j {
+    if s.right.count <= j {
         return missing;
     }
     let unequal = Err(Fault::NotEqual(at));
-    let k = s.lefts + j;
+    let k = s.left.count + j;
     if t.items[i] < LETTERS {
         return unequal;
     }
@@ -249,7 +226,7 @@ fn obey(t: Names<'_>, d: &[u8], s: Running, at: usize) -> Result<Move, Fault>
 {
     let operand = at + 1;
     let x = d[operand];
-    let Some(order) = order_of(d[at]) else {
+    let Ok(order) = Order::try_from(d[at]) else {
         return Err(Fault::UnknownCommand(at));
     };
     match order {
@@ -278,31 +255,44 @@ fn walk(t: Names<'_>, d: &[u8], s: Running, at: usize) -> Result<usize, Fault>
     match next {
         Move::Closed => Ok(at + 2),
         Move::Paired => Ok(at + 3),
-        Move::Reduce(r) => walk_premises(t, d, s, r, at + 2).walked,
+        Move::Reduce(r) => walk_premises(t, d, s, r, at + 2).value,
     }
 }
 
 // A premise of the reduction, made, and its derivation.
 #[cycle(walk_walk_premise_walk_premises)]
-fn walk_premise(t: Names<'_>, d: &[u8], s: Running, r: Reduction, p: Placing, at: usize) -> Tally
+fn walk_premise(
+    t: Names<'_>,
+    d: &[u8],
+    s: Running,
+    r: Reduction,
+    p: Placing,
+    at: usize,
+) -> Counted<Result<usize, Fault>>
     requires { Makes t.nodes.now t.items.now s r p
         × Roomy (premise_by t.nodes.now t.items.now s r p)
         × (at ≤ length d.now) }
-    ensures { Walks d.now (premise_by t.entry.nodes.now t.entry.items.now s r p ∷ []) at result.walked
+    ensures { Walks d.now (premise_by t.entry.nodes.now t.entry.items.now s r p ∷ []) at result.value
         × (result.stores ≡ size (premise_by t.entry.nodes.now t.entry.items.now s r p)) }
 {
-    let mut next = [0u8; 80];
+    let mut next = [0; ROOM];
     let made = s.premise(t.items, &mut next, r, p);
     let names = Names { items: &next, ..t };
-    Tally {
-        walked: walk(names, d, made.running, at),
+    Counted {
+        value: walk(names, d, made.value, at),
         stores: made.stores,
     }
 }
 
 // The derivation of the first premise, then that of the second.
 #[cycle(walk_walk_premise_walk_premises)]
-fn walk_premises(t: Names<'_>, d: &[u8], s: Running, r: Reduction, at: usize) -> Tally
+fn walk_premises(
+    t: Names<'_>,
+    d: &[u8],
+    s: Running,
+    r: Reduction,
+    at: usize,
+) -> Counted<Result<usize, Fault>>
     requires { Good t.nodes.now t.items.now s
         × Roomy (sequent_of t.nodes.now t.items.now s)
         × Reducible t.nodes.now t.items.now s r
@@ -313,22 +303,22 @@ fn walk_premises(t: Names<'_>, d: &[u8], s: Running, r: Reduction, at: usize) ->
     let mut end = at;
     let mut stores = 0;
     for &p in rule {
-        let tally = walk_premise(t, d, s, r, p, end);
-        stores += tally.stores;
-        match tally.walked {
+        let m = walk_premise(t, d, s, r, p, end);
+        stores += m.stores;
+        match m.value {
             Ok(e) => {
                 end = e;
             }
             Err(f) => {
-                return Tally {
-                    walked: Err(f),
+                return Counted {
+                    value: Err(f),
                     stores,
                 };
             }
         }
     }
-    Tally {
-        walked: Ok(end),
+    Counted {
+        value: Ok(end),
         stores,
     }
 }
@@ -341,14 +331,9 @@ pub fn check(q: &[u8], derivation: &[u8]) -> Result<(), NotPassed>
         ↔ ((reading q.now ≡ accepted) × Derivation (question q.now) derivation.now) }
 {
     let asked = Question::read(q)?;
-    let mut nodes = [0u32; 48];
-    let mut items = [0u8; 80];
-    let s = names::root(asked, &mut nodes, &mut items);
-    let names = Names {
-        nodes: &nodes,
-        items: &items,
-    };
-    let end = walk(names, derivation, s, 0)?;
+    let mut lists = Lists::new();
+    let s = names::root(asked, &mut lists);
+    let end = walk(lists.names(), derivation, s, 0)?;
     if end < derivation.len() {
         return Err(NotPassed::Faulty(Fault::BytesAfter(end)));
     }

@@ -48,7 +48,7 @@ impl Masks {
 }
 
 // What a walk has gathered: the letters, how many without NOT it met, the position, and the formulas that are due there,
-// all joined by OR.
+// all joined by OR. No `question::Walk` is in it: that goes from letter to letter, and this one looks at each command.
 #[derive(Clone, Copy)]
 pub struct Gathered {
     pub masks: Masks,
@@ -71,7 +71,7 @@ impl Gathered {
     }
 
     // One command with its operands: a letter, NOT of a letter, or OR, whose two parts are due in its place. A clause has
-    // no other.
+    // no other. Commands stay bytes: by question's enum clauses took 1.07 to 1.09 times as long, 1.16 of what they took.
     fn step(self, q: &[u8]) -> Option<Gathered>
         requires { Within q.now self × (1 ≤ self.due) }
         ensures { (total_of q.now result ≡ total q.now self) × Onward q.now self.at result }
@@ -209,8 +209,9 @@ fn decide(clauses: &[Masks]) -> ClauseVerdict
 fn decide_left(q: Question<'_>) -> Result<ClauseVerdict, NotClauses>
     ensures { let S = question q.entry.bytes.now in reply_of result ≡ profile_reply (profile_from (side_start Side.Left S) S.on_left) }
 {
-    let mut at = q.start(Side::Left);
-    let n = q.count(Side::Left, at);
+    let formulas = q.left();
+    let n = formulas.count();
+    let mut at = formulas.start;
     let mut clauses = [Masks::default(); ALL_FORMULAS];
     for clause in clauses[..n].iter_mut() {
         (*clause, at) = clause_at(q.bytes, at)?;
@@ -227,7 +228,7 @@ fn decide_accepted(q: Question<'_>) -> Result<ClauseVerdict, NotClauses>
     if q.bytes[tail] == question::head_of(Side::Right) {
         return decide_left(q);
     }
-    Err(NotClauses::RightFormula(q.start(Side::Right)))
+    Err(NotClauses::RightFormula(q.formulas(Side::Right).start))
 }
 
 // Decides a question of the profile by unit clauses alone.

@@ -99,8 +99,8 @@ pub fn decide_clauses(q: &[u8]) -> Result<ClauseVerdict, NotClauses>
     clauses::decide_clauses(q)
 }
 
-// What C gets in place of an enum: the numbers for a run that came to no verdict, for a derivation, a list or a spelling that is not
-// written, and for a question outside the clause profile.
+// What C gets in place of an enum: the numbers for a run that came to no verdict, for a derivation, a list or a spelling that is
+// not written, and for a question outside the clause profile.
 const FULL: u32 = 8;
 
 const SPENT: u32 = 9;
@@ -307,6 +307,8 @@ fn part_of(q: &[u8], side: u32, place: usize) -> Part
         _ => Part::default(),
     }
 }
+
+// The calls for C, each the words of one call's answer: the header gives each its name and its arguments.
 
 // Decides a question within a budget of reductions.
 pub fn gekunday_decide(q: &[u8], budget: u64, out: &mut [u64; 4]) -> u32

@@ -4,7 +4,7 @@
 
 ghost use Rattle.std.specs.Prelude.{◌≡◌, List, [], ◌∷◌, ◌++◌, ℕ, ◌+◌, ◌≤◌, ◌<◌, length, take, get_or};
 ghost use Rattle.calculus.specs.Limits;
-ghost use Rattle.calculus.specs.Limits.{CONNECTIVES, ROOM};
+ghost use Rattle.calculus.specs.Limits.{CONNECTIVES};
 ghost use Rattle.calculus.specs.Syntax.{Formula, on_side};
 ghost use Rattle.calculus.specs.Bytes.{question, side_start, start_of};
 ghost use Rattle.calculus.specs.Reading.{accepted, reading};
@@ -14,9 +14,8 @@ ghost use Rattle.sequent.specs.View.{sequent_of, Good};
 ghost use Rattle.sequent.specs.Compounds.{Stands};
 ghost use Rattle.names.specs.Loads.{Nodes, Noted, Numbers, Numbered, Loads, Enters, before};
 
-use calculus::Side;
-use question::{LETTERS, Question};
-use sequent::Running;
+use question::{ALL_CONNECTIVES, Connective, Formulas, LETTERS, Question};
+use sequent::{Half, Names, ROOM, Running};
 
 // A formula's name, the position behind it and the number of the next node.
 #[derive(Clone, Copy)]
@@ -37,11 +36,34 @@ pub struct Loaded {
     pub next: usize,
 }
 
+// Room for the nodes of a question's compounds and the names of its formulas.
+#[derive(Drop)]
+pub struct Lists {
+    nodes: [u32; ALL_CONNECTIVES],
+    items: [u8; ROOM],
+}
+
+impl Lists {
+    pub fn new() -> Lists {
+        Lists {
+            nodes: [0; ALL_CONNECTIVES],
+            items: [0; ROOM],
+        }
+    }
+
+    pub fn names(&self) -> Names<'_> {
+        Names {
+            nodes: &self.nodes,
+            items: &self.items,
+        }
+    }
+}
+
 // The node of a compound in one number, so that the search among nodes compares one word each.
-fn node(b: u8, f: u8, g: u8) -> u32
+fn node(k: Connective, f: u8, g: u8) -> u32
     ensures { result ≡ node b f g }
 {
-    u32::from_le_bytes([b, f, g, 0])
+    u32::from_le_bytes([u8::from(k), f, g, 0])
 }
 
 fn name(n: usize) -> u8
@@ -52,7 +74,7 @@ fn name(n: usize) -> u8
 }
 
 // The name of the compound that has a node: that of an equal node, or the next.
-fn note(nodes: &mut [u32; 48], w: u32, end: usize, n: usize) -> Named
+fn note(nodes: &mut [u32; ALL_CONNECTIVES], w: u32, end: usize, n: usize) -> Named
     requires { (n < CONNECTIVES)
         × (length nodes.old ≡ CONNECTIVES)
         × Nodes nodes.old n
@@ -78,37 +100,44 @@ fn note(nodes: &mut [u32; 48], w: u32, end: usize, n: usize) -> Named
 // Names the formula at a position, where n nodes are in use, and notes the nodes of its compounds. The number n stands beside the
 // nodes: with both in one struct naming takes 1.1 to 1.4 times as long.
 #[cycle(number_number_parts)]
-fn number(q: &[u8], nodes: &mut [u32; 48], at: usize, n: usize) -> Named
+fn number(q: &[u8], nodes: &mut [u32; ALL_CONNECTIVES], at: usize, n: usize) -> Named
     requires { Numbers q.now at n nodes.old }
     ensures { Numbered q.now at n nodes.old nodes.new result }
 {
-    if q[at] == 1 {
-        return Named {
+    match Connective::try_from(q[at]) {
+        Ok(k) => number_parts(q, nodes, at, k, n),
+        Err(_) => Named {
             name: q[at + 1],
             end: at + 2,
             next: n,
-        };
+        },
     }
-    number_parts(q, nodes, at, n)
 }
 
 // A compound: its parts, then itself.
 #[cycle(number_number_parts)]
-fn number_parts(q: &[u8], nodes: &mut [u32; 48], at: usize, n: usize) -> Named
+fn number_parts(
+    q: &[u8],
+    nodes: &mut [u32; ALL_CONNECTIVES],
+    at: usize,
+    k: Connective,
+    n: usize,
+) -> Named
     requires { Numbers q.now at n nodes.old × (get_or q.now at 0 ≡ 1 → ⊥) }
     ensures { Numbered q.now at n nodes.old nodes.new result }
 {
-    let b = q[at];
     let f = number(q, nodes, at + 1, n);
-    if b == 2 {
-        return note(nodes, node(b, f.name, f.name), f.end, f.next);
+    match k {
+        Connective::Not => note(nodes, node(k, f.name, f.name), f.end, f.next),
+        Connective::Two(_) => {
+            let g = number(q, nodes, f.end, f.next);
+            note(nodes, node(k, f.name, g.name), g.end, g.next)
+        }
     }
-    let g = number(q, nodes, f.end, f.next);
-    note(nodes, node(b, f.name, g.name), g.end, g.next)
 }
 
 // The next formula of a side.
-fn enter(q: &[u8], nodes: &mut [u32; 48], items: &mut [u8; 80], l: Loaded) -> Loaded
+fn enter(q: &[u8], nodes: &mut [u32; ALL_CONNECTIVES], items: &mut [u8; ROOM], l: Loaded) -> Loaded
     requires { (first : ℕ) × (xs : List Formula) × Loads nodes.old items.old first l xs × Enters q.now l xs }
     ensures { ((first : ℕ) (xs : List Formula) → Loads nodes.old items.old first l xs
         → Enters q.now l xs
@@ -128,13 +157,13 @@ fn enter(q: &[u8], nodes: &mut [u32; 48], items: &mut [u8; 80], l: Loaded) -> Lo
     }
 }
 
-// The formulas of a side of an accepted question, where that side starts.
+// The formulas of a side of an accepted question, where so many places and nodes are in use.
 fn load(
-    q: Question<'_>,
-    nodes: &mut [u32; 48],
-    items: &mut [u8; 80],
-    side: Side,
-    start: Loaded,
+    xs: Formulas<'_>,
+    nodes: &mut [u32; ALL_CONNECTIVES],
+    items: &mut [u8; ROOM],
+    places: usize,
+    next: usize,
 ) -> Loaded
     requires { (start.end ≡ side_start side (question q.bytes.now))
         × Loads nodes.old items.old start.places start (before side (question q.bytes.now)) }
@@ -147,42 +176,38 @@ fn load(
         × (take start.places items.new ≡ take start.places items.old)
         × (result.end ≡ start_of side (length (on_side side (question q.entry.bytes.now))) (question q.entry.bytes.now)) }
 {
-    let n = q.count(side, start.end);
-    let mut l = start;
-    for _i in 0..n {
-        l = enter(q.bytes, nodes, items, l);
+    let mut l = Loaded {
+        places,
+        mask: 0,
+        set: 0,
+        end: xs.start,
+        next,
+    };
+    for _i in 0..xs.count() {
+        l = enter(xs.q.bytes, nodes, items, l);
     }
     l
 }
 
-// The running sequent of an accepted question, its nodes and its places. The right side starts two bytes behind the left
-// side's formulas.
-pub fn root(q: Question<'_>, nodes: &mut [u32; 48], items: &mut [u8; 80]) -> Running
+// The running sequent of an accepted question, its nodes and its places.
+pub fn root(q: Question<'_>, lists: &mut Lists) -> Running
     ensures { Good nodes.new items.new result
         × (sequent_of nodes.new items.new result ≡ question q.entry.bytes.now) }
 {
-    let start = Loaded {
-        places: 0,
-        mask: 0,
-        set: 0,
-        end: 2,
-        next: 0,
-    };
-    let left = load(q, nodes, items, Side::Left, start);
-    let between = Loaded {
-        places: left.places,
-        mask: 0,
-        set: 0,
-        end: left.end + 2,
-        next: left.next,
-    };
-    let right = load(q, nodes, items, Side::Right, between);
+    let nodes = &mut lists.nodes;
+    let items = &mut lists.items;
+    let l = load(q.left(), nodes, items, 0, 0);
+    let r = load(q.right(l.end), nodes, items, l.places, l.next);
     Running {
-        lefts: left.places,
-        rights: right.places - left.places,
-        leftmask: left.mask,
-        rightmask: right.mask,
-        leftset: left.set,
-        rightset: right.set,
+        left: Half {
+            count: l.places,
+            mask: l.mask,
+            set: l.set,
+        },
+        right: Half {
+            count: r.places - l.places,
+            mask: r.mask,
+            set: r.set,
+        },
     }
 }

@@ -17,17 +17,18 @@ ghost use Rattle.prover.specs.Answers.{decision_of, Promised};
 ghost use Rattle.prover.specs.Inner.{inner_of, Ready, Stepped, First};
 ghost use Rattle.prover.specs.Runs.{ended, Ran, Comes};
 
-use calculus::{Kind, Outcome, Side, Verdict};
+use calculus::{Kind, Outcome, Pair, Side, Verdict};
+use names::Lists;
 use question::{Question, Refusal};
-use sequent::{Names, Place, Placing, ROOM, Reduction, Running};
+use sequent::{Counted, Names, Place, Placing, ROOM, Reduction, Running};
 
 // What is due at a sequent, with the reductions left.
 #[derive(Clone, Copy)]
 pub enum Finding {
     // A letter stands on both sides: the lowest.
     Closed(u32),
-    // A compound stands on both sides: its left place and its right place.
-    Paired(usize, usize),
+    // A compound stands on both sides: at these places.
+    Paired(Pair<usize>),
     // No connective is left: the state.
     Open(u64),
     Full,
@@ -36,15 +37,8 @@ pub enum Finding {
     Reduce(Reduction),
 }
 
-// What a reduction comes to, and the stores made for its premises.
-#[derive(Clone, Copy)]
-pub struct Reduced {
-    pub outcome: Outcome,
-    pub stores: usize,
-}
-
-// How many parts each premise of a reduction places, on the left and on the right: a digit for each connective, at its command. Read off
-// the table of rules, the inner step is no longer part of the run, which then takes 1.2 to 1.5 times as long.
+// How many parts each premise of a reduction places, on the left and on the right: a digit for each connective, at its command.
+// Read off the table of rules, the inner step is no longer part of the run, which then takes 1.2 to 1.5 times as long.
 const LEFT: u32 = 0x2_1_1_2_1_0_0;
 
 const RIGHT: u32 = 0x2_2_2_1_1_0_0;
@@ -54,8 +48,7 @@ fn placed(r: Reduction) -> usize
     requires { (k : Connective) × (code (CONNECTIVE k) ≡ r.node % 256) }
     ensures { Each (λ p. size (premise_of p) ≡ result) (rule_for r) }
 {
-    let side = r.side;
-    let row = match side {
+    let row = match r.place.side {
         Side::Left => LEFT,
         Side::Right => RIGHT,
     };
@@ -82,8 +75,8 @@ fn due_at(t: Names<'_>, s: Running, p: Place, left: u64) -> Finding
         (compound_at t.entry.nodes.now p.side p.at (view s t.entry.items.now))))
         × Ready t.entry.nodes.now t.entry.items.now s left result }
 {
-    let r = s.reduction(t, p.side, p.at);
-    if overfull(r, s.lefts + s.rights) {
+    let r = s.reduction(t, p);
+    if overfull(r, s.left.count + s.right.count) {
         return Finding::Full;
     }
     if left == 0 {
@@ -101,7 +94,7 @@ fn first_due(t: Names<'_>, s: Running, from: usize, left: u64) -> Finding
 {
     match s.first_compound(t.items, from) {
         Some(p) => due_at(t, s, p, left),
-        None => Finding::Open(s.leftmask),
+        None => Finding::Open(s.left.mask),
     }
 }
 
@@ -111,12 +104,12 @@ pub fn step(t: Names<'_>, s: Running, from: usize, left: u64) -> Finding
     requires { Good t.nodes.now t.items.now s × Clear from t.items.now s }
     ensures { Stepped t.entry.nodes.now t.entry.items.now s left result }
 {
-    let shared = s.leftmask & s.rightmask;
+    let shared = s.left.mask & s.right.mask;
     if shared != 0 {
         return Finding::Closed(shared.trailing_zeros());
     }
     match s.twins(t.items) {
-        Some(p) => Finding::Paired(p.left, p.right),
+        Some(p) => Finding::Paired(p),
         None => first_due(t, s, from, left),
     }
 }
@@ -132,7 +125,8 @@ fn ended(kind: Kind, left: u64, closings: u64, pairings: u64) -> Outcome
     }
 }
 
-// The run: reductions left go in and come out.
+// The run: reductions left go in and come out. That names and nodes are good, that letters stand before `from`, and that the
+// connectives are few, stay in clauses here and above (`sequent::Names` says why).
 #[cycle(reduce_run_run_premise)]
 fn run(t: Names<'_>, s: Running, from: usize, left: u64) -> Outcome
     requires { Good t.nodes.now t.items.now s
@@ -142,35 +136,34 @@ fn run(t: Names<'_>, s: Running, from: usize, left: u64) -> Outcome
 {
     match step(t, s, from, left) {
         Finding::Closed(_) => ended(Kind::Theorem, left, 1, 0),
-        Finding::Paired(_, _) => ended(Kind::Theorem, left, 1, 1),
+        Finding::Paired(_) => ended(Kind::Theorem, left, 1, 1),
         Finding::Open(state) => ended(Kind::Refuted(state), left, 0, 0),
         Finding::Full => ended(Kind::Full, left, 0, 0),
         Finding::Spent => ended(Kind::Spent, left, 0, 0),
-        Finding::Reduce(r) => reduce(t, s, r, left - 1).outcome,
+        Finding::Reduce(r) => reduce(t, s, r, left - 1).value,
     }
 }
 
 // A premise of the reduction, made and run.
 #[cycle(reduce_run_run_premise)]
-fn run_premise(t: Names<'_>, s: Running, r: Reduction, p: Placing, left: u64) -> Reduced
+fn run_premise(t: Names<'_>, s: Running, r: Reduction, p: Placing, left: u64) -> Counted<Outcome>
     requires { Makes t.nodes.now t.items.now s r p
-        × FoundAt (view s t.items.now) r.side r.at
+        × FoundAt (view s t.items.now) r.place.side r.place.at
         × (c (sequent_of t.nodes.now t.items.now s) ≤ CONNECTIVES) }
     ensures { Ran left (premise_by t.entry.nodes.now t.entry.items.now s r p) result }
 {
-    let mut next = [0u8; 80];
+    let mut next = [0; ROOM];
     let made = s.premise(t.items, &mut next, r, p);
     let t = Names { items: &next, ..t };
-    let outcome = run(t, made.running, s.start(r.side, r.at), left);
-    Reduced {
-        outcome,
+    Counted {
+        value: run(t, made.value, s.start(r.place), left),
         stores: made.stores,
     }
 }
 
 // The reduction that is due: the first premise is finished, then the second is taken up.
 #[cycle(reduce_run_run_premise)]
-fn reduce(t: Names<'_>, s: Running, r: Reduction, left: u64) -> Reduced
+fn reduce(t: Names<'_>, s: Running, r: Reduction, left: u64) -> Counted<Outcome>
     requires { First t.nodes.now t.items.now s r
         × (c (sequent_of t.nodes.now t.items.now s) ≤ CONNECTIVES) }
     ensures { Comes left (premises_at t.entry.nodes.now t.entry.items.now s r) result }
@@ -182,29 +175,24 @@ fn reduce(t: Names<'_>, s: Running, r: Reduction, left: u64) -> Reduced
         let m = run_premise(t, s, r, p, o.unspent);
         stores += m.stores;
         o = Outcome {
-            closings: o.closings + m.outcome.closings,
-            pairings: o.pairings + m.outcome.pairings,
-            ..m.outcome
+            closings: o.closings + m.value.closings,
+            pairings: o.pairings + m.value.pairings,
+            ..m.value
         };
         let Kind::Theorem = o.kind else {
             break;
         };
     }
-    Reduced { outcome: o, stores }
+    Counted { value: o, stores }
 }
 
 // What the run of an accepted question comes to.
 pub fn outcome_of(q: Question<'_>, budget: u64) -> Outcome
     ensures { result ≡ outcome budget (question q.entry.bytes.now) }
 {
-    let mut nodes = [0u32; 48];
-    let mut items = [0u8; 80];
-    let s = names::root(q, &mut nodes, &mut items);
-    let t = Names {
-        nodes: &nodes,
-        items: &items,
-    };
-    run(t, s, 0, budget)
+    let mut lists = Lists::new();
+    let s = names::root(q, &mut lists);
+    run(lists.names(), s, 0, budget)
 }
 
 // What is reported of it: the kind, the reductions and the closings.

@@ -35,6 +35,9 @@ pub const ALL_LETTERS: usize = LETTERS as usize;
 
 pub const MOST_CONNECTIVES: u8 = 48;
 
+// And with one for each connective.
+pub const ALL_CONNECTIVES: usize = MOST_CONNECTIVES as usize;
+
 // Why a question is refused, and the place.
 #[derive(Clone, Copy)]
 pub enum Refusal {
@@ -97,9 +100,9 @@ fn byte_at(q: &[u8], at: usize) -> Result<u8, Refusal>
     q.get(at).copied().ok_or(Refusal::Cut(at))
 }
 
-// Where the reader is: the connectives so far, the place of the next byte, the formulas due there, and the sides whose
-// command is to come, a number of them as the formulas are. The bytes and `Standing` stay outside: no struct with a ghost field is made by `..self`, so that each step
-// would write out all fields.
+// Where the reader is: the connectives so far, the place of the next byte, the formulas due there, and how many sides' commands are
+// to come. With the side that is next as an `Option`, reading took 1.12 to 1.14 times as long. The bytes and `Standing` stay
+// outside: no struct with a ghost field is made by `..self`, so that each step would write out all fields.
 #[derive(Clone, Copy)]
 pub struct Cursor {
     pub connectives: u8,
@@ -256,22 +259,38 @@ impl<'a> Question<'a> {
         Ok(Question { bytes: q })
     }
 
-    // Where the formulas of a side start.
-    pub fn start(self, side: Side) -> usize
-        ensures { result ≡ side_start side (question self.entry.bytes.now) }
+    // The formulas on the left.
+    pub fn left(self) -> Formulas<'a>
+        ensures { (result.q.bytes ≡ self.entry.bytes) × (result.side ≡ Side.Left) }
     {
-        match side {
-            Side::Left => 2,
-            Side::Right => skip(self.bytes, 2, usize::from(self.bytes[1])) + 2,
+        Formulas {
+            q: self,
+            side: Side::Left,
+            start: 2,
         }
     }
 
-    // How many formulas a side has, where that side starts.
-    pub fn count(self, side: Side, start: usize) -> usize
-        requires { start ≡ side_start side (question self.bytes.now) }
-        ensures { result ≡ length (on_side side (question self.entry.bytes.now)) }
+    // The formulas on the right, behind those on the left.
+    pub fn right(self, end: usize) -> Formulas<'a>
+        requires { end ≡ 2 + bytes_all (question self.bytes.now).on_left }
+        ensures { (result.q.bytes ≡ self.entry.bytes) × (result.side ≡ Side.Right) }
     {
-        usize::from(self.bytes[start - 1])
+        Formulas {
+            q: self,
+            side: Side::Right,
+            start: end + 2,
+        }
+    }
+
+    // The formulas on a side.
+    pub fn formulas(self, side: Side) -> Formulas<'a>
+        ensures { (result.q.bytes ≡ self.entry.bytes) × (result.side ≡ side) }
+    {
+        let left = self.left();
+        match side {
+            Side::Left => left,
+            Side::Right => self.right(skip(self.bytes, left.start, left.count())),
+        }
     }
 
     // Which bytes are the formula at a place of a side, if there is one.
@@ -280,11 +299,11 @@ impl<'a> Question<'a> {
             (λ p. (place < length (on_side side (question self.entry.bytes.now)))
             × (p ≡ formula_part self.entry.bytes.now side place)) }
     {
-        let start = self.start(side);
-        if self.count(side, start) <= place {
+        let formulas = self.formulas(side);
+        if formulas.count() <= place {
             return None;
         }
-        let at = skip(self.bytes, start, place);
+        let at = skip(self.bytes, formulas.start, place);
         Some(Part {
             start: at,
             count: end_of(self.bytes, at) - at,
@@ -292,8 +311,27 @@ impl<'a> Question<'a> {
     }
 }
 
-// A walk over commands: the position of the next, and the formulas due from there on. It goes from letter to letter, since what is
-// due falls at letters alone; how many commands there are shows only on the way, so that no range or slice gives them.
+// The formulas on a side of an accepted question, and where they start.
+#[derive(Clone, Copy)]
+pub struct Formulas<'a> {
+    pub q: Question<'a>,
+    pub side: Side,
+    pub start: usize,
+    pub ghost starts: { start ≡ side_start side (question q.bytes.now) },
+}
+
+impl<'a> Formulas<'a> {
+    // How many they are.
+    pub fn count(self) -> usize
+        ensures { result ≡ length (on_side self.entry.side (question self.entry.q.bytes.now)) }
+    {
+        usize::from(self.q.bytes[self.start - 1])
+    }
+}
+
+// A walk over commands: the position of the next, and the formulas due from there on. It goes from letter to letter, since what
+// is due falls at letters alone; how many commands there are shows only on the way, so that no range or slice gives them. That
+// some are due (`1 ≤ self.due`) is a fact of a `Cursor`, of a `Walk` and of clauses' `Gathered`: three types, at some calls only.
 #[derive(Clone, Copy)]
 pub struct Walk {
     pub at: usize,
@@ -339,7 +377,8 @@ impl Walk {
 }
 
 // A formula is the question's bytes and a position, here and in the crates above. In a struct of both, with `Well` as its ghost
-// field, each part would be put in to be taken out again, since walks hand positions on, and the width took 1.06 to 1.20 times as long.
+// field, each part would be put in to be taken out again, since walks hand positions on, and the width took 1.06 to 1.20 times
+// as long.
 
 // The position behind n formulas that stand one after the other from a position on.
 pub fn skip(q: &[u8], at: usize, n: usize) -> usize

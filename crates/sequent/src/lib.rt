@@ -4,6 +4,7 @@
 ghost use Rattle.std.specs.Prelude.{◌≡◌, [], ◌∷◌, ◌++◌, ◌+◌, ◌-◌, ◌%◌, ◌≤◌, ◌<◌, length};
 ghost use Rattle.std.proofs.Math.Seq.{slice};
 ghost use Rattle.calculus.specs.declared.Side.TheVariants.{Left, Right};
+ghost use Rattle.std.specs.Int.Bits.{bit_or};
 ghost use Rattle.calculus.specs.Limits;
 ghost use Rattle.calculus.specs.Syntax.{Connective as Defined, size};
 ghost use Rattle.calculus.specs.Bytes.{CONNECTIVE, code};
@@ -16,29 +17,55 @@ ghost use Rattle.sequent.specs.View.{Covered, With, Joined, Good, name_at};
 ghost use Rattle.sequent.specs.Passes.{Fits, Stored, Builds};
 ghost use Rattle.sequent.specs.Compounds.{Clear, Found, Stands, Paired, rule_for, reduction_at};
 
-use calculus::Side;
-use question::{Binary, Connective, LETTERS};
+mod order;
 
-// How many formulas stand on each side, the letters of each side, a bit each, and a set that holds the compounds of each side: it
-// only grows, so it holds reduced ones too. The names of the formulas, the left side's and then the right side's, are lent beside
-// it: a letter is named by itself, a compound by its node, above the letters, and equal formulas have one name.
-// That the formulas fit the room is asked by the functions that need it: a ghost field would ask it of `count` and `start` too.
+use calculus::{Pair, Side};
+pub use order::{NoOrder, Order};
+use question::{ALL_CONNECTIVES, Binary, Connective, LETTERS};
+
+// The formulas that a running sequent holds at most.
+pub const ROOM: usize = 80;
+
+// A side of a running sequent: how many formulas stand there, the letters among them, a bit each, and a set that holds the
+// compounds among them: it only grows, so it holds reduced ones too.
 #[derive(Clone, Copy)]
-pub struct Running {
-    pub lefts: usize,
-    pub rights: usize,
-    pub leftmask: u64,
-    pub rightmask: u64,
-    pub leftset: u64,
-    pub rightset: u64,
+pub struct Half {
+    pub count: usize,
+    pub mask: u64,
+    pub set: u64,
 }
 
-// The nodes of a question's compounds and the names of a sequent's formulas. The running sequent stays beside them: with it in one
-// struct `decide` takes 1.10 to 1.24 times as long.
+impl Half {
+    // With the bits of a name.
+    fn with(self, name: u8) -> Half
+        ensures { (result.count ≡ self.count)
+            × (result.mask ≡ bit_or self.mask (bit_of name))
+            × (result.set ≡ bit_or self.set (compound_bit name)) }
+    {
+        Half {
+            mask: self.mask | letter_bit(name),
+            set: self.set | compound_bit(name),
+            ..self
+        }
+    }
+}
+
+// The names of the formulas, the left side's and then the right side's, are lent beside it: a letter is named by itself, a
+// compound by its node, above the letters, and equal formulas have one name. That the formulas fit the room is asked by the
+// functions that need it: a ghost field would ask it of `count` and `start` too.
+#[derive(Clone, Copy)]
+pub struct Running {
+    pub left: Half,
+    pub right: Half,
+}
+
+// The nodes of a question's compounds and the names of a sequent's formulas. The running sequent stays beside them, and so what
+// holds of all three (`Good`, `Clear`, `Roomy`, `Makes`, at most so many connectives) stays in clauses, here and in the crates
+// above: with the three in one struct `decide` takes 1.10 to 1.24 times as long.
 #[derive(Clone, Copy)]
 pub struct Names<'a> {
-    pub nodes: &'a [u32; 48],
-    pub items: &'a [u8; 80],
+    pub nodes: &'a [u32; ALL_CONNECTIVES],
+    pub items: &'a [u8; ROOM],
 }
 
 // Where the two parts of a formula go in a premise, if anywhere.
@@ -56,15 +83,6 @@ struct Parts {
     g: u8,
 }
 
-// The compound at a place of a side, by its node. That a node holds a connective's command stays in `requires`: a ghost field would ask
-// it of `command` too, whose callers are asked nothing.
-#[derive(Clone, Copy)]
-pub struct Reduction {
-    pub side: Side,
-    pub at: usize,
-    pub node: u32,
-}
-
 // A side and a place of it.
 #[derive(Clone, Copy)]
 pub struct Place {
@@ -72,11 +90,12 @@ pub struct Place {
     pub at: usize,
 }
 
-// A left place and a right place.
+// The compound at a place, by its node. That a node holds a connective's command stays in `requires`: a ghost field would ask it
+// of `command` too, whose callers are asked nothing.
 #[derive(Clone, Copy)]
-pub struct Pair {
-    pub left: usize,
-    pub right: usize,
+pub struct Reduction {
+    pub place: Place,
+    pub node: u32,
 }
 
 // A premise in the making: the next place of the old list, the next place of the new one, and the stores so far. The lists stay
@@ -88,15 +107,12 @@ pub struct Pass {
     pub stores: usize,
 }
 
-// A premise and the stores made for it.
+// A value, and the stores made for it.
 #[derive(Clone, Copy)]
-pub struct Built {
-    pub running: Running,
+pub struct Counted<T> {
+    pub value: T,
     pub stores: usize,
 }
-
-// The formulas that a running sequent holds at most.
-pub const ROOM: usize = 80;
 
 const L: Option<Side> = Some(Side::Left);
 
@@ -164,7 +180,7 @@ impl Reduction {
         requires { (k : Defined) × (code (CONNECTIVE k) ≡ self.node % 256) }
         ensures { result.now ≡ rule_for self }
     {
-        rule_of(self.connective(), self.side)
+        rule_of(self.connective(), self.place.side)
     }
 }
 
@@ -172,7 +188,7 @@ impl Reduction {
 
 impl Pass {
     // The old places up to one.
-    fn copy(self, old: &[u8; 80], new: &mut [u8; 80], end: usize) -> Pass
+    fn copy(self, old: &[u8; ROOM], new: &mut [u8; ROOM], end: usize) -> Pass
         requires { (self.from ≤ end) × (end ≤ Limits.ROOM) × Fits self (end - self.from) new.old }
         ensures { Stored self result end (slice self.from end old.now) new.old new.new }
     {
@@ -184,7 +200,7 @@ impl Pass {
     }
 
     // A name.
-    fn put(self, new: &mut [u8; 80], name: u8) -> Pass
+    fn put(self, new: &mut [u8; ROOM], name: u8) -> Pass
         requires { Fits self 1 new.old }
         ensures { Stored self result self.from (name ∷ []) new.old new.new }
     {
@@ -197,7 +213,7 @@ impl Pass {
     }
 
     // A part, if it goes to the side.
-    fn part(self, new: &mut [u8; 80], to: Option<Side>, side: Side, name: u8) -> Pass
+    fn part(self, new: &mut [u8; ROOM], to: Option<Side>, side: Side, name: u8) -> Pass
         requires { Fits self (length (keep (goes_to side to) name)) new.old }
         ensures { Stored self result self.from (keep (goes_to side to) name) new.old new.new }
     {
@@ -209,7 +225,7 @@ impl Pass {
     }
 
     // The parts that a premise puts on a side.
-    fn parts(self, new: &mut [u8; 80], side: Side, x: Parts) -> Pass
+    fn parts(self, new: &mut [u8; ROOM], side: Side, x: Parts) -> Pass
         requires { Fits self (length (parts_on side x.p x.f x.g)) new.old }
         ensures { Stored self result self.from (parts_on side x.p x.f x.g) new.old new.new }
     {
@@ -230,8 +246,8 @@ impl Pass {
 
 // ---- the letters and the compounds of a premise's parts
 
-// The bit of a letter; none for a compound. Letters and compounds are two sets, so these stay two functions (decision 64): with one
-// for both bits `decide` took 1.02 to 1.10 times as long when it was tried.
+// The bit of a letter; none for a compound. Letters and compounds are two sets, so these stay two functions (decision 64): with
+// one for both bits `decide` took 1.02 to 1.10 times as long when it was tried.
 pub fn letter_bit(name: u8) -> u64
     ensures { result ≡ bit_of name }
 {
@@ -263,74 +279,65 @@ impl Running {
         ensures { result ≡ count_of side self }
     {
         match side {
-            Side::Left => self.lefts,
-            Side::Right => self.rights,
+            Side::Left => self.left.count,
+            Side::Right => self.right.count,
         }
     }
 
-    // Where the name at a place of a side stands in the list. A side and a place come as two, here and below: of all callers only
-    // the inner step has a `Place` at hand.
-    pub fn slot(self, side: Side, at: usize) -> usize
-        requires { (at < count_of side self) × (self.lefts + self.rights ≤ Limits.ROOM) }
-        ensures { (result ≡ slot_of side at self) × (result < Limits.ROOM) }
+    // Where the name at a place stands in the list.
+    pub fn slot(self, p: Place) -> usize
+        requires { (p.at < count_of p.side self) × (self.left.count + self.right.count ≤ Limits.ROOM) }
+        ensures { (result ≡ slot_of p.side p.at self) × (result < Limits.ROOM) }
     {
-        match side {
-            Side::Left => at,
-            Side::Right => self.lefts + at,
+        match p.side {
+            Side::Left => p.at,
+            Side::Right => self.left.count + p.at,
         }
     }
 
     // Where a side's names end in the list.
     fn end(self, side: Side) -> usize
-        requires { self.lefts + self.rights ≤ Limits.ROOM }
+        requires { self.left.count + self.right.count ≤ Limits.ROOM }
         ensures { result ≡ end_of side self }
     {
         match side {
-            Side::Left => self.lefts,
-            Side::Right => self.lefts + self.rights,
+            Side::Left => self.left.count,
+            Side::Right => self.left.count + self.right.count,
         }
     }
 
-    // Where the premises of a reduction of the first compound, at a place of a side, are searched from: before it stand letters.
-    pub fn start(self, side: Side, at: usize) -> usize
-        ensures { result ≡ start_of side at self }
+    // Where the premises of a reduction of the first compound, at a place, are searched from: before it stand letters.
+    pub fn start(self, p: Place) -> usize
+        ensures { result ≡ start_of p.side p.at self }
     {
-        match side {
-            Side::Left => at,
-            Side::Right => self.lefts,
+        match p.side {
+            Side::Left => p.at,
+            Side::Right => self.left.count,
         }
     }
 
-    // What is left up to a place of a side, and the parts in place of the formula there.
-    fn replace(
-        self,
-        a: Pass,
-        old: &[u8; 80],
-        new: &mut [u8; 80],
-        side: Side,
-        at: usize,
-        x: Parts,
-    ) -> Pass
-        requires { (at < count_of side self)
-            × (self.lefts + self.rights ≤ Limits.ROOM)
-            × (a.from ≤ slot_of side at self)
-            × Fits a (slot_of side at self - a.from + length (parts_on side x.p x.f x.g)) new.old }
+    // What is left up to a place, and the parts in place of the formula there.
+    fn replace(self, a: Pass, old: &[u8; ROOM], new: &mut [u8; ROOM], p: Place, x: Parts) -> Pass
+        requires { (p.at < count_of p.side self)
+            × (self.left.count + self.right.count ≤ Limits.ROOM)
+            × (a.from ≤ slot_of p.side p.at self)
+            × Fits a (slot_of p.side p.at self - a.from + length (parts_on p.side x.p x.f x.g)) new.old }
         ensures { Stored
             a
             result
-            (slot_of side at self + 1)
-            (slice a.from (slot_of side at self) old.now ++ parts_on side x.p x.f x.g)
+            (slot_of p.side p.at self + 1)
+            (slice a.from (slot_of p.side p.at self) old.now ++ parts_on p.side x.p x.f x.g)
             new.old
             new.new }
     {
-        let k = self.slot(side, at);
-        a.copy(old, new, k).parts(new, side, x).skip()
+        let k = self.slot(p);
+        a.copy(old, new, k).parts(new, p.side, x).skip()
     }
 
     // What is left up to the end of a side, and the parts behind it.
-    fn append(self, a: Pass, old: &[u8; 80], new: &mut [u8; 80], side: Side, x: Parts) -> Pass
+    fn append(self, a: Pass, old: &[u8; ROOM], new: &mut [u8; ROOM], side: Side, x: Parts) -> Pass
         requires { (a.from ≤ end_of side self)
-            × (self.lefts + self.rights ≤ Limits.ROOM)
+            × (self.left.count + self.right.count ≤ Limits.ROOM)
             × Fits a (end_of side self - a.from + length (parts_on side x.p x.f x.g)) new.old }
         ensures { Stored
             a
@@ -350,13 +357,11 @@ impl Running {
     {
         match to {
             Some(Side::Left) => Running {
-                leftmask: self.leftmask | letter_bit(name),
-                leftset: self.leftset | compound_bit(name),
+                left: self.left.with(name),
                 ..self
             },
             Some(Side::Right) => Running {
-                rightmask: self.rightmask | letter_bit(name),
-                rightset: self.rightset | compound_bit(name),
+                right: self.right.with(name),
                 ..self
             },
             None => self,
@@ -368,64 +373,78 @@ impl Running {
         ensures { Joined lefts rights x.p x.f x.g self result }
     {
         Running {
-            lefts,
-            rights,
-            ..self
+            left: Half {
+                count: lefts,
+                ..self.left
+            },
+            right: Half {
+                count: rights,
+                ..self.right
+            },
         }
         .with(x.p.f, x.f)
         .with(x.p.g, x.g)
     }
 
     // The parts of the reduced side take the place, the others go to the end of their side.
-    fn build(self, old: &[u8; 80], new: &mut [u8; 80], side: Side, at: usize, x: Parts) -> Built
-        requires { (at < count_of side self)
-            × (self.lefts + self.rights ≤ Limits.ROOM)
-            × (self.lefts
-            + self.rights
+    fn build(self, old: &[u8; ROOM], new: &mut [u8; ROOM], p: Place, x: Parts) -> Counted<Running>
+        requires { (p.at < count_of p.side self)
+            × (self.left.count + self.right.count ≤ Limits.ROOM)
+            × (self.left.count
+            + self.right.count
             + length (parts_on Left x.p x.f x.g)
             + length (parts_on Right x.p x.f x.g)
             ≤ Limits.ROOM + 1) }
-        ensures { Builds side at x.p x.f x.g self old.now new.old new.new result }
+        ensures { Builds p.side p.at x.p x.f x.g self old.now new.old new.new result }
     {
-        let n = self.lefts + self.rights;
+        let n = self.left.count + self.right.count;
         let start = Pass {
             from: 0,
             to: 0,
             stores: 0,
         };
-        match side {
+        match p.side {
             Side::Left => {
-                let l = self.replace(start, old, new, Side::Left, at, x);
+                let l = self.replace(start, old, new, p, x);
                 let e = self.append(l, old, new, Side::Right, x);
-                let k = l.to + (self.lefts - l.from);
-                Built {
-                    running: self.joined(k, e.to - k, x),
+                let k = l.to + (self.left.count - l.from);
+                Counted {
+                    value: self.joined(k, e.to - k, x),
                     stores: e.stores,
                 }
             }
             Side::Right => {
                 let l = self.append(start, old, new, Side::Left, x);
-                let r = self.replace(l, old, new, Side::Right, at, x);
+                let r = self.replace(l, old, new, p, x);
                 let e = r.copy(old, new, n);
                 let k = l.to;
-                Built {
-                    running: self.joined(k, e.to - k, x),
+                Counted {
+                    value: self.joined(k, e.to - k, x),
                     stores: e.stores,
                 }
             }
         }
     }
 
-    // A premise of a reduction: the names of its two parts go where p says.
-    pub fn premise(self, old: &[u8; 80], new: &mut [u8; 80], r: Reduction, p: Placing) -> Built
-        requires { (r.at < count_of r.side self)
-            × (self.lefts + self.rights ≤ Limits.ROOM)
+    // A premise of a reduction: the names of its two parts go where p says. The list is lent: with list and running sequent in one
+    // value, `derive` takes 1.07 times as long, 1.10 of what it took. Run, writer and checker each go on from a premise by
+    // themselves: a closure in a cycle of calls has to state all that the call inside states, so that one function for the three
+    // would say each contract once more.
+    pub fn premise(
+        self,
+        old: &[u8; ROOM],
+        new: &mut [u8; ROOM],
+        r: Reduction,
+        p: Placing,
+    ) -> Counted<Running>
+        requires { (r.place.at < count_of r.place.side self)
+            × (self.left.count + self.right.count ≤ Limits.ROOM)
             × (size
-            (premise r.side r.at (view self old.now) (placed p (first_of r.node) (second_of r.node)))
+            (premise r.place.side r.place.at (view self old.now) (placed p (first_of r.node) (second_of r.node)))
             ≤ Limits.ROOM) }
         ensures { Builds
-            r.side
-            r.at
+            r.place.side
+            r.place.at
             p
             (first_of r.node)
             (second_of r.node)
@@ -436,19 +455,20 @@ impl Running {
             result }
     {
         let [_, f, g, _] = r.node.to_le_bytes();
-        self.build(old, new, r.side, r.at, Parts { p, f, g })
+        self.build(old, new, r.place, Parts { p, f, g })
     }
 
-    // The first formula with a connective, the left side before the right, where there is none before a place of the list. It counts
-    // the places: over the slice, by `position` or `enumerate`, `decide` takes 1.25 to 1.55 times as long.
-    pub fn first_compound(self, items: &[u8; 80], from: usize) -> Option<Place>
-        requires { (self.lefts + self.rights ≤ Limits.ROOM) × Clear from items.now self }
+    // The first formula with a connective, the left side before the right, where there is none before a place of the list. It
+    // counts the places: over the slice, by `position` or `enumerate`, `decide` takes 1.25 to 1.55 times as long.
+    pub fn first_compound(self, items: &[u8; ROOM], from: usize) -> Option<Place>
+        requires { (self.left.count + self.right.count ≤ Limits.ROOM) × Clear from items.now self }
         ensures { Found (view self items.now) result }
     {
-        let n = self.lefts + self.rights;
+        let lefts = self.left.count;
+        let n = lefts + self.right.count;
         for i in from..n {
             if LETTERS <= items[i] {
-                return Some(if i < self.lefts {
+                return Some(if i < lefts {
                     Place {
                         side: Side::Left,
                         at: i,
@@ -456,7 +476,7 @@ impl Running {
                 } else {
                     Place {
                         side: Side::Right,
-                        at: i - self.lefts,
+                        at: i - lefts,
                     }
                 });
             }
@@ -464,30 +484,30 @@ impl Running {
         None
     }
 
-    // How the compound at a place of a side reduces.
-    pub fn reduction(self, t: Names<'_>, side: Side, at: usize) -> Reduction
+    // How the compound at a place reduces.
+    pub fn reduction(self, t: Names<'_>, p: Place) -> Reduction
         requires { Good t.nodes.now t.items.now self
-            × (at < count_of side self)
-            × (Limits.LETTERS ≤ name_at side at (view self t.items.now)) }
-        ensures { result ≡ reduction_at t.entry.nodes.now side at (view self t.entry.items.now) }
+            × (p.at < count_of p.side self)
+            × (Limits.LETTERS ≤ name_at p.side p.at (view self t.items.now)) }
+        ensures { result ≡ reduction_at t.entry.nodes.now p.side p.at (view self t.entry.items.now) }
     {
-        let k = self.slot(side, at);
+        let k = self.slot(p);
         let n = usize::from(t.items[k] - LETTERS);
         Reduction {
-            side,
-            at,
+            place: p,
             node: t.nodes[n],
         }
     }
 
     // The lowest left place of a compound that stands on the right too, with its lowest right place.
-    fn search(self, items: &[u8; 80]) -> Option<Pair>
-        requires { self.lefts + self.rights ≤ Limits.ROOM }
+    fn search(self, items: &[u8; ROOM]) -> Option<Pair<usize>>
+        requires { self.left.count + self.right.count ≤ Limits.ROOM }
         ensures { Paired (view self items.now) result }
     {
-        let n = self.lefts + self.rights;
-        let right = &items[self.lefts..n];
-        for (i, &x) in items[..self.lefts].iter().enumerate() {
+        let lefts = self.left.count;
+        let n = lefts + self.right.count;
+        let right = &items[lefts..n];
+        for (i, &x) in items[..lefts].iter().enumerate() {
             if LETTERS <= x {
                 if let Some(j) = place_of(right, x) {
                     return Some(Pair { left: i, right: j });
@@ -498,11 +518,11 @@ impl Running {
     }
 
     // The same: where the sets do not meet, no compound stands on both sides.
-    pub fn twins(self, items: &[u8; 80]) -> Option<Pair>
-        requires { (self.lefts + self.rights ≤ Limits.ROOM) × Covered self items.now }
+    pub fn twins(self, items: &[u8; ROOM]) -> Option<Pair<usize>>
+        requires { (self.left.count + self.right.count ≤ Limits.ROOM) × Covered self items.now }
         ensures { Paired (view self items.now) result }
     {
-        if self.leftset & self.rightset == 0 {
+        if self.left.set & self.right.set == 0 {
             return None;
         }
         self.search(items)

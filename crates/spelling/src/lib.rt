@@ -6,7 +6,7 @@ ghost use Rattle.std.specs.Prelude.{◌≡◌, List, [], ◌∷◌, map, ℕ, �
 ghost use Rattle.std.specs.List.{concat};
 ghost use Rattle.calculus.specs.Limits.{FORMULAS};
 ghost use Rattle.calculus.specs.Syntax.{on_side};
-ghost use Rattle.calculus.specs.Bytes.{SIDE, code, encode, bytes_all, question, side_start};
+ghost use Rattle.calculus.specs.Bytes.{SIDE, code, encode, bytes_all, question};
 ghost use Rattle.calculus.specs.Standard.{insert, arranged};
 ghost use Rattle.calculus.specs.Reply.{spell};
 ghost use Rattle.spelling.specs.declared.NotSpelled.TheVariants.{Refused};
@@ -15,7 +15,7 @@ ghost use Rattle.spelling.specs.Answers.{spelling_of, Spells};
 
 use arrayvec::ArrayVec;
 use calculus::Side;
-use question::{ALL_FORMULAS, Question, Refusal};
+use question::{ALL_FORMULAS, Formulas, Question, Refusal};
 
 // Where a formula is among others that ascend, or else where it belongs. From the front: by halves (`binary_search`) spelling
 // took 1.3 times as long where sides have many formulas.
@@ -43,21 +43,17 @@ fn enter<'a>(formulas: &mut ArrayVec<&'a [u8], ALL_FORMULAS>, x: &'a [u8])
     }
 }
 
-// Enters the formulas of a side, which start there, and answers the position behind them.
-fn enter_side<'a>(
-    formulas: &mut ArrayVec<&'a [u8], ALL_FORMULAS>,
-    q: Question<'a>,
-    side: Side,
-    start: usize,
-) -> usize
-    requires { (formulas.old.items ≡ []) × (start ≡ side_start side (question q.bytes.now)) }
-    ensures { (map (λ f. f.now) formulas.new.items ≡ map encode (arranged (on_side side (question q.entry.bytes.now))))
-        × (result ≡ start + bytes_all (on_side side (question q.entry.bytes.now))) }
+// Enters the formulas of a side, and answers the position behind them.
+fn enter_side<'a>(formulas: &mut ArrayVec<&'a [u8], ALL_FORMULAS>, xs: Formulas<'a>) -> usize
+    requires { formulas.old.items ≡ [] }
+    ensures { (map (λ f. f.now) formulas.new.items ≡ map encode (arranged (on_side xs.entry.side (question xs.entry.q.bytes.now))))
+        × (result ≡ xs.entry.start + bytes_all (on_side xs.entry.side (question xs.entry.q.bytes.now))) }
 {
-    let mut at = start;
-    for _ in 0..q.count(side, start) {
-        let end = question::end_of(q.bytes, at);
-        enter(formulas, &q.bytes[at..end]);
+    let q = xs.q.bytes;
+    let mut at = xs.start;
+    for _ in 0..xs.count() {
+        let end = question::end_of(q, at);
+        enter(formulas, &q[at..end]);
         at = end;
     }
     at
@@ -131,7 +127,7 @@ pub fn spell(q: &[u8], out: &mut [u8]) -> Result<usize, NotSpelled>
     let q = Question::read(q)?;
     let mut lefts = ArrayVec::new();
     let mut rights = ArrayVec::new();
-    let start = enter_side(&mut lefts, q, Side::Left, 2) + 2;
-    enter_side(&mut rights, q, Side::Right, start);
+    let end = enter_side(&mut lefts, q.left());
+    enter_side(&mut rights, q.right(end));
     write_sides(lefts.as_slice(), rights.as_slice(), out).map_err(NotSpelled::NoSpace)
 }

@@ -4,69 +4,49 @@
 ghost use Rattle.std.specs.Prelude.{◌≡◌, ℕ, ◌≤◌, length, take, drop, get_or, IfOk};
 ghost use Rattle.calculus.specs.Limits.{CONNECTIVES};
 ghost use Rattle.calculus.specs.Syntax.{on_side, connectives};
-ghost use Rattle.calculus.specs.Bytes.{formulas, question, side_start};
+ghost use Rattle.calculus.specs.Bytes.{formulas, question};
 ghost use Rattle.calculus.specs.Reply.{width_reply};
 ghost use Rattle.question.specs.Positions.{Well, formula_at};
 ghost use Rattle.question.specs.Connectives.{binary_of, command_of};
-ghost use Rattle.width.specs.Walks.{Fit, side_of, exchanged, joined, walk_of, product_of};
+ghost use Rattle.width.specs.Walks.{Fit, exchanged, joined, walk_of, product_of};
 ghost use Rattle.width.specs.Answers.{width_of, Sized};
 
-use calculus::Side;
+use calculus::Pair;
 pub use question::{Binary, Connective, NoConnective};
-use question::{Question, Refusal};
+use question::{Formulas, Question, Refusal};
 
-// A formula's pair of widths, on the left and on the right.
-#[derive(Clone, Copy)]
-pub struct Pair {
-    pub left: u64,
-    pub right: u64,
+// The pair of the negation of a formula, whose pair this is: the widths on the left and on the right.
+pub fn exchanged(f: Pair<u64>) -> Pair<u64>
+    ensures { result ≡ exchanged f }
+{
+    Pair {
+        left: f.right,
+        right: f.left,
+    }
 }
 
-impl Pair {
-    // The width on a side.
-    pub fn on(self, side: Side) -> u64
-        ensures { result ≡ side_of self side }
-    {
-        match side {
-            Side::Left => self.left,
-            Side::Right => self.right,
-        }
-    }
-
-    // The pair of the negation.
-    pub fn exchanged(self) -> Pair
-        ensures { result ≡ exchanged self }
-    {
-        Pair {
-            left: self.right,
-            right: self.left,
-        }
-    }
-
-    // The pair of the formula joined with another by a binary connective.
-    pub fn joined(self, o: Binary, g: Pair) -> Pair
-        requires { Fit self g }
-        ensures { result ≡ joined (binary_of o) self g }
-    {
-        let f = self;
-        match o {
-            Binary::And => Pair {
-                left: f.left * g.left,
-                right: f.right + g.right,
-            },
-            Binary::Or => Pair {
-                left: f.left + g.left,
-                right: f.right * g.right,
-            },
-            Binary::Implies => Pair {
-                left: f.right + g.left,
-                right: f.left * g.right,
-            },
-            Binary::Equiv => Pair {
-                left: f.left * g.left + f.right * g.right,
-                right: f.left * g.right + g.left * f.right,
-            },
-        }
+// The pair of two formulas joined by a binary connective.
+pub fn joined(o: Binary, f: Pair<u64>, g: Pair<u64>) -> Pair<u64>
+    requires { Fit f g }
+    ensures { result ≡ joined (binary_of o) f g }
+{
+    match o {
+        Binary::And => Pair {
+            left: f.left * g.left,
+            right: f.right + g.right,
+        },
+        Binary::Or => Pair {
+            left: f.left + g.left,
+            right: f.right * g.right,
+        },
+        Binary::Implies => Pair {
+            left: f.right + g.left,
+            right: f.left * g.right,
+        },
+        Binary::Equiv => Pair {
+            left: f.left * g.left + f.right * g.right,
+            right: f.left * g.right + g.left * f.right,
+        },
     }
 }
 
@@ -80,7 +60,7 @@ pub struct Walked<T> {
 
 // The formula at a position: its pair of widths, in one walk over its bytes.
 #[cycle(part_widths_widths)]
-pub fn widths(q: &[u8], at: usize) -> Walked<Pair>
+pub fn widths(q: &[u8], at: usize) -> Walked<Pair<u64>>
     requires { Well q.now at × (connectives (formula_at q.now at) ≤ CONNECTIVES) }
     ensures { result ≡ walk_of q.now at }
 {
@@ -96,7 +76,7 @@ pub fn widths(q: &[u8], at: usize) -> Walked<Pair>
 
 // The formula at a position that has the connective k, from its parts. NOT exchanges the pair.
 #[cycle(part_widths_widths)]
-pub fn part_widths(q: &[u8], k: Connective, at: usize) -> Walked<Pair>
+pub fn part_widths(q: &[u8], k: Connective, at: usize) -> Walked<Pair<u64>>
     requires well { Well q.now at × (connectives (formula_at q.now at) ≤ CONNECTIVES) }
     requires command { get_or q.now at 0 ≡ command_of k }
     ensures { result ≡ walk_of q.now at }
@@ -104,14 +84,14 @@ pub fn part_widths(q: &[u8], k: Connective, at: usize) -> Walked<Pair>
     let f = widths(q, at + 1);
     match k {
         Connective::Not => Walked {
-            value: f.value.exchanged(),
+            value: exchanged(f.value),
             connectives: f.connectives + 1,
             end: f.end,
         },
         Connective::Two(o) => {
             let g = widths(q, f.end);
             Walked {
-                value: f.value.joined(o, g.value),
+                value: joined(o, f.value, g.value),
                 connectives: f.connectives + g.connectives + 1,
                 end: g.end,
             }
@@ -119,21 +99,19 @@ pub fn part_widths(q: &[u8], k: Connective, at: usize) -> Walked<Pair>
     }
 }
 
-// The product of the widths of a side's formulas, where that side starts.
-fn side_product(q: Question<'_>, side: Side, start: usize) -> Walked<u64>
-    requires { start ≡ side_start side (question q.bytes.now) }
-    ensures { result ≡ product_of side start (on_side side (question q.entry.bytes.now)) }
+// The product of the widths of a side's formulas.
+fn product(xs: Formulas<'_>) -> Walked<u64>
+    ensures { result ≡ product_of xs.entry.side xs.entry.start (on_side xs.entry.side (question xs.entry.q.bytes.now)) }
 {
-    let n = q.count(side, start);
     let mut all = Walked {
         value: 1,
         connectives: 0,
-        end: start,
+        end: xs.start,
     };
-    for _ in 0..n {
-        let f = widths(q.bytes, all.end);
+    for _ in 0..xs.count() {
+        let f = widths(xs.q.bytes, all.end);
         all = Walked {
-            value: all.value * f.value.on(side),
+            value: all.value * f.value.on(xs.side),
             connectives: all.connectives + f.connectives,
             end: f.end,
         };
@@ -148,14 +126,14 @@ pub struct Measure {
     pub connectives: u64,
 }
 
-// The width of a question. The right side starts two bytes behind the left side's formulas.
+// The width of a question.
 pub fn width(q: &[u8]) -> Result<Measure, Refusal>
     ensures reply { width_of result ≡ width_reply q.now }
     ensures sized { IfOk result (λ m. Sized q.now m.width m.connectives) }
 {
     let q = Question::read(q)?;
-    let left = side_product(q, Side::Left, q.start(Side::Left));
-    let right = side_product(q, Side::Right, left.end + 2);
+    let left = product(q.left());
+    let right = product(q.right(left.end));
     Ok(Measure {
         width: left.value * right.value,
         connectives: left.connectives + right.connectives,

@@ -17,10 +17,11 @@ ghost use Rattle.writer.specs.declared.NotWritten.TheVariants.{Refused};
 ghost use Rattle.writer.specs.Answers.{answer_of, IsTheorem, WrittenOut, Evidence};
 ghost use Rattle.writer.specs.Emits.{Provable, derivations, Emits};
 
-use calculus::{Kind, Side, Verdict};
+use calculus::{Kind, Verdict};
+use names::Lists;
 use prover::Finding;
-use question::{Connective, Question, Refusal};
-use sequent::{Names, Placing, Reduction, Running};
+use question::{Question, Refusal};
+use sequent::{Counted, Names, Order, Placing, ROOM, Reduction, Running};
 
 // A derivation that is written: its length, and the verdict.
 #[derive(Clone, Copy)]
@@ -47,19 +48,12 @@ impl From<Refusal> for NotWritten {
     }
 }
 
-// How many bytes were written of premises, and the stores made for them.
-#[derive(Clone, Copy)]
-struct Emitted {
-    length: usize,
-    stores: usize,
-}
-
 // A command and its operand; answers how many bytes they are.
-fn put(out: &mut [u8], command: u8, operand: u8) -> usize
+fn put(out: &mut [u8], o: Order, operand: u8) -> usize
     requires { 2 ≤ length out.old }
-    ensures { (result ≡ 2) × (out.new ≡ sets out.old 0 (command ∷ operand ∷ [])) }
+    ensures { (result ≡ 2) × (out.new ≡ sets out.old 0 (byte_of o ∷ operand ∷ [])) }
 {
-    out[0] = command;
+    out[0] = u8::from(o);
     out[1] = operand;
     2
 }
@@ -69,20 +63,9 @@ fn put_pair(out: &mut [u8], left: u8, right: u8) -> usize
     requires { 3 ≤ length out.old }
     ensures { (result ≡ 3) × (out.new ≡ sets out.old 0 (order_code PAIR ∷ left ∷ right ∷ [])) }
 {
-    put(out, 0x42, left);
+    put(out, Order::Pair, left);
     out[2] = right;
     3
-}
-
-// The command that reduces a connective on a side.
-fn command_of(side: Side, k: Connective) -> u8
-    ensures { result ≡ order_code (REDUCE side (connective_of k)) }
-{
-    let low = u8::from(k);
-    match side {
-        Side::Left => 0x50 + low,
-        Side::Right => 0x60 + low,
-    }
 }
 
 // The derivation of a theorem; answers its length. Letters alone stand before place `from`.
@@ -97,11 +80,12 @@ fn emit(t: Names<'_>, s: Running, from: usize, out: &mut [u8]) -> usize
         ≡ sets out.old 0 (derivation (sequent_of t.entry.nodes.now t.entry.items.now s))) }
 {
     match prover::step(t, s, from, 1) {
-        Finding::Closed(k) => put(out, 0x41, k as u8),
-        Finding::Paired(i, j) => put_pair(out, i as u8, j as u8),
+        Finding::Closed(k) => put(out, Order::Close, k as u8),
+        Finding::Paired(p) => put_pair(out, p.left as u8, p.right as u8),
         Finding::Reduce(r) => {
-            let n = put(out, command_of(r.side, r.connective()), r.at as u8);
-            n + emit_premises(t, s, r, &mut out[n..]).length
+            let order = Order::Reduce(r.place.side, r.connective());
+            let n = put(out, order, r.place.at as u8);
+            n + emit_premises(t, s, r, &mut out[n..]).value
         }
         _ => unreachable!(),
     }
@@ -109,9 +93,15 @@ fn emit(t: Names<'_>, s: Running, from: usize, out: &mut [u8]) -> usize
 
 // A premise of the reduction, made, and its derivation.
 #[cycle(emit_emit_premise_emit_premises)]
-fn emit_premise(t: Names<'_>, s: Running, r: Reduction, p: Placing, out: &mut [u8]) -> Emitted
+fn emit_premise(
+    t: Names<'_>,
+    s: Running,
+    r: Reduction,
+    p: Placing,
+    out: &mut [u8],
+) -> Counted<usize>
     requires { Makes t.nodes.now t.items.now s r p
-        × FoundAt (view s t.items.now) r.side r.at
+        × FoundAt (view s t.items.now) r.place.side r.place.at
         × Provable (premise_by t.nodes.now t.items.now s r p)
         × (length (derivation (premise_by t.nodes.now t.items.now s r p)) ≤ length out.old) }
     ensures { Emits
@@ -121,19 +111,18 @@ fn emit_premise(t: Names<'_>, s: Running, r: Reduction, p: Placing, out: &mut [u
         out.new
         result }
 {
-    let mut next = [0u8; 80];
+    let mut next = [0; ROOM];
     let made = s.premise(t.items, &mut next, r, p);
     let t = Names { items: &next, ..t };
-    let length = emit(t, made.running, s.start(r.side, r.at), out);
-    Emitted {
-        length,
+    Counted {
+        value: emit(t, made.value, s.start(r.place), out),
         stores: made.stores,
     }
 }
 
 // The whole derivation of the first premise, then that of the second.
 #[cycle(emit_emit_premise_emit_premises)]
-fn emit_premises(t: Names<'_>, s: Running, r: Reduction, out: &mut [u8]) -> Emitted
+fn emit_premises(t: Names<'_>, s: Running, r: Reduction, out: &mut [u8]) -> Counted<usize>
     requires { First t.nodes.now t.items.now s r
         × Each Provable (premises_at t.nodes.now t.items.now s r)
         × (length (derivations (premises_at t.nodes.now t.items.now s r)) ≤ length out.old) }
@@ -149,10 +138,13 @@ fn emit_premises(t: Names<'_>, s: Running, r: Reduction, out: &mut [u8]) -> Emit
     let mut stores = 0;
     for &p in rule {
         let e = emit_premise(t, s, r, p, &mut out[length..]);
-        length += e.length;
+        length += e.value;
         stores += e.stores;
     }
-    Emitted { length, stores }
+    Counted {
+        value: length,
+        stores,
+    }
 }
 
 // The derivation of a theorem, if the buffer holds it: two bytes for each reduction and closing, and one more for each closing by
@@ -170,14 +162,9 @@ fn write_out(
     if (buffer.len() as u64) < length {
         return Err(NotWritten::NoSpace(length));
     }
-    let mut nodes = [0u32; 48];
-    let mut items = [0u8; 80];
-    let s = names::root(q, &mut nodes, &mut items);
-    let t = Names {
-        nodes: &nodes,
-        items: &items,
-    };
-    emit(t, s, 0, buffer);
+    let mut lists = Lists::new();
+    let s = names::root(q, &mut lists);
+    emit(lists.names(), s, 0, buffer);
     Ok(Written { length, verdict: v })
 }
 
