@@ -121,14 +121,14 @@ module _ (T items : List ℕ) (s : Running) (good : Good T items s) where
     abbrev Both : Said
     Both = pairs (get_elem? (sequent_of T items s).on_left i) (get_elem? (sequent_of T items s).on_right j)
 
-    pub no_left : s.lefts ≤ i → Moves T items s at Both (Err (NoFormula at))
+    pub no_left : s.left.count ≤ i → Moves T items s at Both (Err (NoFormula at))
     no_left h = (rw (no_formula_at Left i h), refl)
 
-    module _ (h : i < s.lefts) where
-      pub no_right : s.rights ≤ j → Moves T items s at Both (Err (NoFormula at))
+    module _ (h : i < s.left.count) where
+      pub no_right : s.right.count ≤ j → Moves T items s at Both (Err (NoFormula at))
       no_right k = (rw (formula_at_lem T items s good Left i h, no_formula_at Right j k), refl)
 
-      module _ (k : j < s.rights) where
+      module _ (k : j < s.right.count) where
         abbrev left : ℕ
         left = name_at Left i (view s items)
 
@@ -172,16 +172,16 @@ module _ (T items : List ℕ) (s : Running) (i at b : ℕ) (n : Maybe ℕ) where
   abbrev S : Sequent
   S = sequent_of T items s
 
-  closing_bits : Good T items s → (bit i s.leftmask && bit i s.rightmask) ≡ (among i (letters S.on_left) && among i (letters S.on_right))
+  closing_bits : Good T items s → (bit i s.left.mask && bit i s.right.mask) ≡ (among i (letters S.on_left) && among i (letters S.on_right))
   closing_bits good = rw (masks_state T items s good Left, masks_state T items s good Right, bit_state i (letters S.on_left), bit_state i (letters S.on_right))
 
-  obey_close : (r : Bool) → Good T items s → order_of (order b) ≡ Some Close → r ≡ (bit i s.leftmask && bit i s.rightmask) → obey (order b) i n S ≡ choose r (waiting []) (fault NOT_CLOSED)
+  obey_close : (r : Bool) → Good T items s → order_of (order b) ≡ Some Close → r ≡ (bit i s.left.mask && bit i s.right.mask) → obey (order b) i n S ≡ choose r (waiting []) (fault NOT_CLOSED)
   obey_close r good e h = rw (means (order b) (Some Close) e, h, closing_bits good)
 
-  pub closed : (r : Bool) → Good T items s → order_of (order b) ≡ Some Close → r ≡ (bit i s.leftmask && bit i s.rightmask) → r ≡ true → Moves T items s at (obey (order b) i n S) (Ok Closed)
+  pub closed : (r : Bool) → Good T items s → order_of (order b) ≡ Some Close → r ≡ (bit i s.left.mask && bit i s.right.mask) → r ≡ true → Moves T items s at (obey (order b) i n S) (Ok Closed)
   closed r good e h y = obey_close r good e h ∙ rw y
 
-  pub not_closed : (r : Bool) → Good T items s → order_of (order b) ≡ Some Close → r ≡ (bit i s.leftmask && bit i s.rightmask) → r ≡ false
+  pub not_closed : (r : Bool) → Good T items s → order_of (order b) ≡ Some Close → r ≡ (bit i s.left.mask && bit i s.right.mask) → r ≡ false
       → Moves T items s at (obey (order b) i n S) (Err (NotClosed at))
   not_closed r good e h z = (obey_close r good e h ∙ rw z, refl)
 

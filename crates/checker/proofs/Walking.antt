@@ -165,4 +165,4 @@ pub roomy_next : (T items : List ℕ) (s : Running) (good : Good T items s) → 
 roomy_next T items s good roomy r can rule e j h =
     each_at (λ p. Roomy (premise_by T items s r p)) rule j nowhere
     (each_unmap (premise_by T items s r) Roomy rule (subst (Each Roomy) (sym (premises_made T items s good r can rule e))
-    (roomy_premises r.side r.at (compound_at T r.side r.at (view s items)) (sequent_of T items s) (stands T items s good r.side r.at can.inside can.compound) roomy))) h
+    (roomy_premises r.place.side r.place.at (compound_at T r.place.side r.place.at (view s items)) (sequent_of T items s) (stands T items s good r.place.side r.place.at can.inside can.compound) roomy))) h

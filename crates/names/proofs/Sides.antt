@@ -146,7 +146,7 @@ between T items first l xs e h =
     record { size = h.size; room = h.room; nodes = h.nodes; few = h.few; count = h.count; names = h.names; mask = rw n refl; set = rw n refl; inside = omega arith }
 
 abbrev running : Loaded → Loaded → Running
-running l r = record { lefts = l.places; rights = r.places - l.places; leftmask = l.mask; rightmask = r.mask; leftset = l.set; rightset = r.set }
+running l r = record { left = record { count = l.places; mask = l.mask; set = l.set }; right = record { count = r.places - l.places; mask = r.mask; set = r.set } }
 
 module _ (S : Sequent) (w : Within S) (R old : List ℕ) (l : Loaded) (a : Loads R old 0 l S.on_left)
     (T items : List ℕ) (r : Loaded) (b : Loads T items l.places r (S.on_left ++ S.on_right)) (k : take l.places items ≡ take l.places old) where

@@ -6,7 +6,7 @@ use Prim.Native.Nat.{ℕ}
 use Rattle.calculus.specs.Syntax.{size}
 use Rattle.sequent.specs.declared.Placing.{Placing}
 use Rattle.sequent.specs.declared.Running.{Running}
-use Rattle.sequent.specs.declared.Built.{Built}
+use Rattle.sequent.specs.declared.Counted.{Counted}
 use Rattle.sequent.specs.declared.Reduction.{Reduction}
 use Rattle.sequent.specs.Names.{first_of, second_of}
 use Rattle.sequent.specs.View.{view, start_of, sequent_of, Good}
@@ -15,14 +15,14 @@ use Rattle.sequent.specs.Compounds.{Clear, FoundAt, premise_by, Makes}
 use Rattle.sequent.proofs.Goods.{made_is, made_good, made_stores, made_clear}
 
 -- letters alone stand before where it is searched from
-pub record Made (T items : List ℕ) (s : Running) (r : Reduction) (p : Placing) (new : List ℕ) (b : Built) : Type 0 where
-  pub is : sequent_of T new b.running ≡ premise_by T items s r p
-  pub good : Good T new b.running
-  pub clear : Clear (start_of r.side r.at s) new b.running
+pub record Made (T items : List ℕ) (s : Running) (r : Reduction) (p : Placing) (new : List ℕ) (b : Counted Running) : Type 0 where
+  pub is : sequent_of T new b.value ≡ premise_by T items s r p
+  pub good : Good T new b.value
+  pub clear : Clear (start_of r.place.side r.place.at s) new b.value
   pub stores : b.stores ≡ size (premise_by T items s r p)
 
-pub made : {T items : List ℕ} {s : Running} {r : Reduction} {p : Placing} → Makes T items s r p → FoundAt (view s items) r.side r.at
-    → {before new : List ℕ} {b : Built} → Builds r.side r.at p (first_of r.node) (second_of r.node) s items before new b → Made T items s r p new b
+pub made : {T items : List ℕ} {s : Running} {r : Reduction} {p : Placing} → Makes T items s r p → FoundAt (view s items) r.place.side r.place.at
+    → {before new : List ℕ} {b : Counted Running} → Builds r.place.side r.place.at p (first_of r.node) (second_of r.node) s items before new b → Made T items s r p new b
 made {T} {items} {s} {r} {p} m found {before} {new} {b} builds =
     record {
       is = made_is T items s r p m before new b builds;

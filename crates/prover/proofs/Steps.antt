@@ -22,7 +22,7 @@ use Rattle.calculus.proofs.Folds.{or_false_both}
 use Rattle.sequent.specs.declared.Running.{Running}
 use Rattle.sequent.specs.declared.Reduction.{Reduction}
 use Rattle.std.specs.Prelude.{Some, None}
-use Rattle.sequent.specs.declared.Pair.{Pair}
+use Rattle.calculus.specs.declared.Pair.{Pair}
 use Rattle.sequent.specs.Rule.{overfull_of}
 use Rattle.sequent.specs.View.{view, count_of, name_at, sequent_of, Good}
 use Rattle.sequent.specs.Compounds.{FoundAt, Found, Paired, compound_at, rule_for, reduction_at}
@@ -53,7 +53,7 @@ module _ {T items : List ℕ} {s : Running} (good : Good T items s) (t : Side) (
   first_command {r} e =
       ((compound_at T t i (view s items)).connective, sym (ap (λ (u : Reduction). u.node % 256) e ∙ (compounded T items s good t i first_inside first_name).command))
 
-  module _ {r : Reduction} (e : r ≡ reduction_at T t i (view s items)) {b : Bool} (f : b ≡ overfull_of (rule_for r) (s.lefts + s.rights)) (left : ℕ) where
+  module _ {r : Reduction} (e : r ≡ reduction_at T t i (view s items)) {b : Bool} (f : b ≡ overfull_of (rule_for r) (s.left.count + s.right.count)) (left : ℕ) where
     full_test : fold ANY (λ P. ltb ROOM (size P)) (premises t i (compound_at T t i (view s items)) (sequent_of T items s)) ≡ b
     full_test = full_is T items s good t i first_inside first_name r e ∙ sym f
 
@@ -74,7 +74,7 @@ module _ {T items : List ℕ} {s : Running} (good : Good T items s) (t : Side) (
           go zero z = absurd (z refl)
           go (suc l) z = refl
 
-      pub due_reduce : is_due r.side r.at (compound_at T r.side r.at (view s items)) ≡ afford left (due (sequent_of T items s) t i (compound_at T t i (view s items)))
+      pub due_reduce : is_due r.place.side r.place.at (compound_at T r.place.side r.place.at (view s items)) ≡ afford left (due (sequent_of T items s) t i (compound_at T t i (view s items)))
       due_reduce = ap (λ (u : Reduction). is_due u.side u.at (compound_at T u.side u.at (view s items))) e ∙ due_now
 
       pub due_ready : ReadyAt T items s left r
@@ -108,20 +108,20 @@ module _ {T items : List ℕ} {s : Running} (good : Good T items s) (left : ℕ)
   closed_by w e = ap (λ o. afford left (tests (sequent_of T items s) o (first lefts) (first rights))) (sym e)
 
   -- a letter stands on both sides
-  pub inner_lettered : s.leftmask < 2 ^ LETTERS → s.rightmask < 2 ^ LETTERS → (bit_and s.leftmask s.rightmask ≡ 0 → ⊥)
-      → is_closed (lettered (count_trailing_zeros LETTERS (bit_and s.leftmask s.rightmask))) ≡ inner left (sequent_of T items s)
+  pub inner_lettered : s.left.mask < 2 ^ LETTERS → s.right.mask < 2 ^ LETTERS → (bit_and s.left.mask s.right.mask ≡ 0 → ⊥)
+      → is_closed (lettered (count_trailing_zeros LETTERS (bit_and s.left.mask s.right.mask))) ≡ inner left (sequent_of T items s)
   inner_lettered l r n =
-      closed_by _ (ap (λ (o : Option ℕ). either o (twins lefts rights)) (lowest_common (letters lefts) (letters rights) s.leftmask s.rightmask (masks_state T items s good Left) (masks_state T items s good Right) l r n))
+      closed_by _ (ap (λ (o : Option ℕ). either o (twins lefts rights)) (lowest_common (letters lefts) (letters rights) s.left.mask s.right.mask (masks_state T items s good Left) (masks_state T items s good Right) l r n))
 
   -- no letter does
-  module _ (apart : bit_and s.leftmask s.rightmask ≡ 0) where
+  module _ (apart : bit_and s.left.mask s.right.mask ≡ 0) where
     none_shared : common (letters lefts) (letters rights) ≡ none
-    none_shared = no_common (letters lefts) (letters rights) s.leftmask s.rightmask (masks_state T items s good Left) (masks_state T items s good Right) apart
+    none_shared = no_common (letters lefts) (letters rights) s.left.mask s.right.mask (masks_state T items s good Left) (masks_state T items s good Right) apart
 
     pub not_closed : Paired (view s items) None → closing (sequent_of T items s) ≡ none
     not_closed h = rw (none_shared, twins_are T items s good None h)
 
-    pub inner_paired : (p : Pair) → Paired (view s items) (Some p) → (is_closed (paired p.left p.right) ≡ inner left (sequent_of T items s)) × ((p.left < ROOM) × (p.right < ROOM))
+    pub inner_paired : (p : Pair ℕ) → Paired (view s items) (Some p) → (is_closed (paired p.left p.right) ≡ inner left (sequent_of T items s)) × ((p.left < ROOM) × (p.right < ROOM))
     inner_paired p h = (
       closed_by (paired p.left p.right) (rw (none_shared, twins_are T items s good (Some p) h)),
       (omega (arith, h.0.left, held T items s good Left, good.room), omega (arith, h.0.right, held T items s good Right, good.room)),

@@ -17,11 +17,11 @@ inner_of T N (Paired i j) = is_closed (paired i j)
 inner_of T N (Open σ) = is_open σ
 inner_of T N Full = is_full
 inner_of T N Spent = is_spent
-inner_of T N (Reduce r) = is_due r.side r.at (compound_at T r.side r.at N)
+inner_of T N (Reduce r) = is_due r.place.side r.place.at (compound_at T r.place.side r.place.at N)
 
 -- a reduction that is due is that of the first compound, it can be made, and the budget has one left
 pub record ReadyAt (T items : List ℕ) (s : Running) (left : ℕ) (r : Reduction) : Type 0 where
-  pub found : FoundAt (view s items) r.side r.at
+  pub found : FoundAt (view s items) r.place.side r.place.at
   pub can : Reducible T items s r
   pub affords : 0 < left
 
@@ -41,5 +41,5 @@ pub record Stepped (T items : List ℕ) (s : Running) (left : ℕ) (r : Finding)
 -- the reduction of the first compound can be made
 pub record First (T items : List ℕ) (s : Running) (r : Reduction) : Type 0 where
   pub good : Good T items s
-  pub found : FoundAt (view s items) r.side r.at
+  pub found : FoundAt (view s items) r.place.side r.place.at
   pub can : Reducible T items s r

@@ -77,37 +77,37 @@ module _ (xs ys : List ℕ) (i : ℕ) (e : i ≡ first_in (xs ++ ys)) where
 
 -- ---- a running sequent
 
-module _ (s : Running) (l : List ℕ) (full : length l ≡ ROOM) (room : s.lefts + s.rights ≤ ROOM) (from i : ℕ) (low : from ≤ s.lefts + s.rights)
-    (none : first_in (take from l) ≡ from) (e : i ≡ from + first_in (slice from (s.lefts + s.rights) l)) where
+module _ (s : Running) (l : List ℕ) (full : length l ≡ ROOM) (room : s.left.count + s.right.count ≤ ROOM) (from i : ℕ) (low : from ≤ s.left.count + s.right.count)
+    (none : first_in (take from l) ≡ from) (e : i ≡ from + first_in (slice from (s.left.count + s.right.count) l)) where
   first_of_both : i ≡ first_in ((view s l).on_left ++ (view s l).on_right)
   first_of_both =
-      let n = s.lefts + s.rights in
+      let n = s.left.count + s.right.count in
       let parts : take from l ++ slice from n l ≡ take n l = ap (λ (v : List ℕ). v ++ slice from n l) (sym (take-take from n l low)) ∙ take-append-drop from (take n l) in
       let z : length (take from l) ≡ from = length-take-le from l (omega arith) in
       let b = first_behind (take from l) (slice from n l) (none ∙ sym z) in
       let f : first_in (take from l ++ slice from n l) ≡ i = omega (arith, b, z, e) in
-      sym f ∙ ap first_in (parts ∙ take-add s.lefts s.rights l)
+      sym f ∙ ap first_in (parts ∙ take-add s.left.count s.right.count l)
 
-  left_count : length (view s l).on_left ≡ s.lefts
-  left_count = length-take-le s.lefts l (omega arith)
+  left_count : length (view s l).on_left ≡ s.left.count
+  left_count = length-take-le s.left.count l (omega arith)
 
-  right_count : length (view s l).on_right ≡ s.rights
-  right_count = length-take-le s.rights (drop s.lefts l) (omega (arith, length-drop s.lefts l))
+  right_count : length (view s l).on_right ≡ s.right.count
+  right_count = length-take-le s.right.count (drop s.left.count l) (omega (arith, length-drop s.left.count l))
 
-  pub found_left : i < s.lefts → FoundAt (view s l) Left i
+  pub found_left : i < s.left.count → FoundAt (view s l) Left i
   found_left h =
       let k : i < length (view s l).on_left = omega (arith, left_count) in
       (in_first (view s l).on_left (view s l).on_right i first_of_both k, k)
 
-  module _ (h : s.lefts ≤ i) where
+  module _ (h : s.left.count ≤ i) where
     left_none : first_in (view s l).on_left ≡ length (view s l).on_left
     left_none = past_first (view s l).on_left (view s l).on_right i first_of_both (omega (arith, left_count))
 
-    right_first : i ≡ s.lefts + first_in (view s l).on_right
+    right_first : i ≡ s.left.count + first_in (view s l).on_right
     right_first = rw left_count at (in_second (view s l).on_left (view s l).on_right i first_of_both (omega (arith, left_count)))
 
-    pub found_right : i < s.lefts + s.rights → FoundAt (view s l) Right (i - s.lefts)
+    pub found_right : i < s.left.count + s.right.count → FoundAt (view s l) Right (i - s.left.count)
     found_right k = (left_none, omega (arith, right_first), omega (arith, right_count))
 
-    pub found_nowhere : i ≡ s.lefts + s.rights → Found (view s l) None
+    pub found_nowhere : i ≡ s.left.count + s.right.count → Found (view s l) None
     found_nowhere k = (left_none, omega (arith, right_first, right_count))

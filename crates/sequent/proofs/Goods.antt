@@ -18,9 +18,9 @@ use Rattle.calculus.proofs.Sequents.{Due, Smaller, smaller}
 use Rattle.calculus.proofs.Trees.{alike_only}
 use Rattle.sequent.specs.declared.Placing.{Placing}
 use Rattle.sequent.specs.declared.Running.{Running}
-use Rattle.sequent.specs.declared.Built.{Built}
+use Rattle.sequent.specs.declared.Counted.{Counted}
 use Rattle.sequent.specs.declared.Reduction.{Reduction}
-use Rattle.sequent.specs.declared.Pair.{Pair}
+use Rattle.calculus.specs.declared.Pair.{Pair}
 use Rattle.sequent.specs.Names.{first_of, second_of, formula_in, Known}
 use Rattle.sequent.specs.Rule.{rule_of, parts_on, placed, premises_of, sided, overfull_of}
 use Rattle.sequent.specs.View.{view, count_of, mask_of, slot_of, start_of, name_at, named, sequent_of, bit_of, letters_of, Good}
@@ -94,7 +94,7 @@ module _ (T items : List ℕ) (s : Running) (good : Good T items s) where
   pub held : (t : Side) → length (on_side t (view s items)) ≡ count_of t s
   held = names-held s items good.places good.room
 
-  pub size_held : size (view s items) ≡ s.lefts + s.rights
+  pub size_held : size (view s items) ≡ s.left.count + s.right.count
   size_held = omega (arith, ones (view s items).on_left, ones (view s items).on_right, held Left, held Right)
 
   pub masks_state : (t : Side) → mask_of t s ≡ state (letters (on_side t (sequent_of T items s)))
@@ -147,7 +147,7 @@ module _ (T items : List ℕ) (s : Running) (good : Good T items s) where
           go (yes h) = absurd (none d x.connective x.f x.g (sym (letter_named T good.nodes good.used good.few d k h) ∙ e))
           go (no h) = omega arith
 
-  pub twins_are : (r : Optional Pair) → Paired (view s items) r → twins (sequent_of T items s).on_left (sequent_of T items s).on_right ≡ twins_of r
+  pub twins_are : (r : Optional (Pair ℕ)) → Paired (view s items) r → twins (sequent_of T items s).on_left (sequent_of T items s).on_right ≡ twins_of r
   twins_are (Some p) h =
       alike_only (sequent_of T items s).on_left (sequent_of T items s).on_right (alike p.left p.right) (equal_formulas p.left p.right h.0, λ m n e. h.1 m n (equal_names m n e))
   twins_are None h = alike_only (sequent_of T items s).on_left (sequent_of T items s).on_right unlike (λ m n e. h m n (equal_names m n e))
@@ -202,19 +202,19 @@ module _ (T items : List ℕ) (s : Running) (good : Good T items s) where
         pub premises_are : map premise_of (rule_for r) ≡ premises t i x (sequent_of T items s)
         premises_are = rule_premises (formula_in T) (view s items) t i (first_of r.node) (second_of r.node) x first_part second_part (rule_for r) rows
 
-        pub full_is : fold ANY (λ P. ltb ROOM (size P)) (premises t i x (sequent_of T items s)) ≡ overfull_of (rule_for r) (s.lefts + s.rights)
+        pub full_is : fold ANY (λ P. ltb ROOM (size P)) (premises t i x (sequent_of T items s)) ≡ overfull_of (rule_for r) (s.left.count + s.right.count)
         full_is = rule_full (formula_in T) (view s items) t i (first_of r.node) (second_of r.node) x first_part second_part (rule_for r) rows inside ∙ ap (overfull_of (rule_for r)) size_held
 
         -- ---- a premise made
 
-        module _ (p : Placing) (before new : List ℕ) (b : Built) (builds : Builds t i p (first_of r.node) (second_of r.node) s items before new b) (small : size (premise_of p) ≤ ROOM) where
+        module _ (p : Placing) (before new : List ℕ) (b : Counted Running) (builds : Builds t i p (first_of r.node) (second_of r.node) s items before new b) (small : size (premise_of p) ≤ ROOM) where
           known_parts : (u : Side) → Each (Known T good.used) (parts_on u p (first_of r.node) (second_of r.node))
           known_parts u =
               each_parts (Known T good.used) u p (first_of r.node) (second_of r.node)
               (subst (Known T good.used) (sym (ap (λ (v : Reduction). first_of v.node) e)) compounded.first_known)
               (subst (Known T good.used) (sym (ap (λ (v : Reduction). second_of v.node) e)) compounded.second_known)
 
-          pub premise_good : Good T new b.running
+          pub premise_good : Good T new b.value
           premise_good =
               record {
                 nodes = good.nodes;
@@ -224,28 +224,28 @@ module _ (T items : List ℕ) (s : Running) (good : Good T items s) where
                 few = good.few;
                 distinct = good.distinct;
                 known = λ u. subst (λ (N : Seq ℕ). Each (Known T good.used) (on_side u N)) (sym builds.held) (each_premise (Known T good.used) t u i (view s items) p (first_of r.node) (second_of r.node) (known_parts u) (good.known u));
-                masks = masked_premise s b.running items new t i p (first_of r.node) (second_of r.node) good.masks inside c builds.held builds.masks;
-                sets = covered_premise s b.running items new t i p (first_of r.node) (second_of r.node) good.sets builds.held builds.sets;
+                masks = masked_premise s b.value items new t i p (first_of r.node) (second_of r.node) good.masks inside c builds.held builds.masks;
+                sets = covered_premise s b.value items new t i p (first_of r.node) (second_of r.node) good.sets builds.held builds.sets;
               }
 
   -- ---- a reduction that can be made
 
   module _ (r : Reduction) (can : Reducible T items s r) where
     fewer : Each (λ P. 1 + c P ≤ c (sequent_of T items s)) (premises_at T items s r)
-    fewer = go (premises_at T items s r) (smaller r.side r.at (compound_at T r.side r.at (view s items)) (sequent_of T items s) (stands r.side r.at can.inside can.compound))
+    fewer = go (premises_at T items s r) (smaller r.place.side r.place.at (compound_at T r.place.side r.place.at (view s items)) (sequent_of T items s) (stands r.place.side r.place.at can.inside can.compound))
       where
         go : (Ps : List Sequent) → Each (Smaller (sequent_of T items s)) Ps → Each (λ P. 1 + c P ≤ c (sequent_of T items s)) Ps
         go [] h = tt
         go (P ∷ Ps) h = (h.0.0, go Ps h.1)
 
     -- its command, and its place in a byte
-    pub command_made : r.node % 256 ≡ code (CONNECTIVE (compound_at T r.side r.at (view s items)).connective)
-    command_made = ap (λ (u : Reduction). u.node % 256) can.exact ∙ (compounded r.side r.at can.inside can.compound).command
+    pub command_made : r.node % 256 ≡ code (CONNECTIVE (compound_at T r.place.side r.place.at (view s items)).connective)
+    command_made = ap (λ (u : Reduction). u.node % 256) can.exact ∙ (compounded r.place.side r.place.at can.inside can.compound).command
 
-    pub place_small : r.at < ROOM
-    place_small = go r.side can.inside
+    pub place_small : r.place.at < ROOM
+    place_small = go r.place.side can.inside
       where
-        go : (t : Side) → r.at < count_of t s → r.at < ROOM
+        go : (t : Side) → r.place.at < count_of t s → r.place.at < ROOM
         go Left h = omega (arith, good.room)
         go Right h = omega (arith, good.room)
 
@@ -253,10 +253,10 @@ module _ (T items : List ℕ) (s : Running) (good : Good T items s) where
 
     module _ (rule : List Placing) (e : rule ≡ rule_for r) where
       pub premises_made : map (premise_by T items s r) rule ≡ premises_at T items s r
-      premises_made = ap (map (premise_by T items s r)) e ∙ premises_are r.side r.at can.inside can.compound r can.exact
+      premises_made = ap (map (premise_by T items s r)) e ∙ premises_are r.place.side r.place.at can.inside can.compound r can.exact
 
       pub few : length rule ≤ 2
-      few = rw (e, rule_is r.side r.at can.inside can.compound r can.exact) (few_rows (compound_at T r.side r.at (view s items)).connective r.side).1
+      few = rw (e, rule_is r.place.side r.place.at can.inside can.compound r can.exact) (few_rows (compound_at T r.place.side r.place.at (view s items)).connective r.place.side).1
 
       each_made : (Q : Sequent → Type 0) → Each Q (premises_at T items s r) → Each (λ p. Q (premise_by T items s r p)) rule
       each_made Q h = each_unmap (premise_by T items s r) Q rule (subst (Each Q) (sym premises_made) h)
@@ -277,22 +277,22 @@ module _ (T items : List ℕ) (s : Running) (good : Good T items s) where
 
 module _ (T items : List ℕ) (s : Running) (r : Reduction) (p : Placing) (m : Makes T items s r p) where
   -- what `premise` asks
-  pub premise_asks : (r.at < count_of r.side s) × (s.lefts + s.rights ≤ ROOM) × (size (premise r.side r.at (view s items) (placed p (first_of r.node) (second_of r.node))) ≤ ROOM)
+  pub premise_asks : (r.place.at < count_of r.place.side s) × (s.left.count + s.right.count ≤ ROOM) × (size (premise r.place.side r.place.at (view s items) (placed p (first_of r.node) (second_of r.node))) ≤ ROOM)
   premise_asks =
-      (m.can.inside, m.good.room, omega (arith, m.small, size_named (formula_in T) (premise r.side r.at (view s items) (placed p (first_of r.node) (second_of r.node)))))
+      (m.can.inside, m.good.room, omega (arith, m.small, size_named (formula_in T) (premise r.place.side r.place.at (view s items) (placed p (first_of r.node) (second_of r.node)))))
 
-  module _ (before new : List ℕ) (b : Built) (builds : Builds r.side r.at p (first_of r.node) (second_of r.node) s items before new b) where
-    pub made_is : sequent_of T new b.running ≡ premise_by T items s r p
+  module _ (before new : List ℕ) (b : Counted Running) (builds : Builds r.place.side r.place.at p (first_of r.node) (second_of r.node) s items before new b) where
+    pub made_is : sequent_of T new b.value ≡ premise_by T items s r p
     made_is = ap (named (formula_in T)) builds.held
 
-    pub made_good : Good T new b.running
-    made_good = premise_good T items s m.good r.side r.at m.can.inside m.can.compound r m.can.exact p before new b builds m.small
+    pub made_good : Good T new b.value
+    made_good = premise_good T items s m.good r.place.side r.place.at m.can.inside m.can.compound r m.can.exact p before new b builds m.small
 
     pub made_stores : b.stores ≡ size (premise_by T items s r p)
-    made_stores = builds.stores ∙ sym (size_named (formula_in T) (premise r.side r.at (view s items) (placed p (first_of r.node) (second_of r.node))))
+    made_stores = builds.stores ∙ sym (size_named (formula_in T) (premise r.place.side r.place.at (view s items) (placed p (first_of r.node) (second_of r.node))))
 
     -- letters alone stand before where it is searched from, if the first compound was reduced
-    pub made_clear : FoundAt (view s items) r.side r.at → Clear (start_of r.side r.at s) new b.running
+    pub made_clear : FoundAt (view s items) r.place.side r.place.at → Clear (start_of r.place.side r.place.at s) new b.value
     made_clear found =
-        let w = restarts s items m.good.places m.good.room r.side r.at found (placed p (first_of r.node) (second_of r.node)) b.running new builds.held in
+        let w = restarts s items m.good.places m.good.room r.place.side r.place.at found (placed p (first_of r.node) (second_of r.node)) b.value new builds.held in
         record { inside = omega (arith, w.0); letters = w.1 }

@@ -15,8 +15,9 @@ use Rattle.sequent.specs.declared.Placing.{Placing}
 use Rattle.sequent.specs.Rule.{goes_to, keep, parts_on, placed}
 use Rattle.sequent.proofs.Masks.{or_assoc, OR, fold_splice}
 use Rattle.sequent.proofs.Lists.{on_left, on_right}
+use Rattle.sequent.specs.declared.Half.{Half}
 use Rattle.sequent.specs.declared.Running.{Running}
-use Rattle.sequent.specs.View.{view, mask_of, set_of, bits_by, bit_of, letters_of, compound_bit, compounds_of, Masked, With, Joined}
+use Rattle.sequent.specs.View.{half, grown, view, mask_of, set_of, bits_by, bit_of, letters_of, compound_bit, compounds_of, Masked, With, Joined}
 
 pub bits_fold : (β : ℕ → ℕ) (xs : List ℕ) → bits_by β xs ≡ fold OR β xs
 bits_fold β [] = refl
@@ -37,33 +38,37 @@ letters_splice xs new i h k =
 
 -- ---- parts join
 
-abbrev with_bits : Side → ℕ → ℕ → Running → Running
-with_bits Left a x s = record s { leftmask = bit_or s.leftmask a; leftset = bit_or s.leftset x }
-with_bits Right a x s = record s { rightmask = bit_or s.rightmask a; rightset = bit_or s.rightset x }
+abbrev with_half : Side → Half → Running → Running
+with_half Left h s = record s { left = h }
+with_half Right h s = record s { right = h }
 
 module _ (name : ℕ) (s : Running) where
-  pub with_side : (t : Side) (to : Option Side) → to ≡ Some t → (a x : ℕ) → a ≡ bit_of name → x ≡ compound_bit name → With to name s (with_bits t a x s)
-  with_side t to e a x h k = record { on_left = same_left t; on_right = same_right t; masks = λ u. masks t u ∙ ap (λ (o : Option Side). bit_or (mask_of u s) (letters_of (keep (goes_to u o) name))) (sym e); sets = λ u. sets t u ∙ ap (λ (o : Option Side). bit_or (set_of u s) (compounds_of (keep (goes_to u o) name))) (sym e) }
+  abbrev after : Side → Running
+  after t = with_half t (grown name (half t s)) s
+
+  pub with_side : (t : Side) (to : Option Side) → to ≡ Some t → (h : Half) → h ≡ grown name (half t s) → With to name s (with_half t h s)
+  with_side t to e h g =
+      rw (g, e) (record { on_left = same_left t; on_right = same_right t; masks = masks t; sets = sets t })
     where
-      same_left : (t : Side) → (with_bits t a x s).lefts ≡ s.lefts
+      same_left : (t : Side) → (after t).left.count ≡ s.left.count
       same_left Left = refl
       same_left Right = refl
 
-      same_right : (t : Side) → (with_bits t a x s).rights ≡ s.rights
+      same_right : (t : Side) → (after t).right.count ≡ s.right.count
       same_right Left = refl
       same_right Right = refl
 
-      masks : (t u : Side) → mask_of u (with_bits t a x s) ≡ bit_or (mask_of u s) (letters_of (keep (goes_to u (Some t)) name))
-      masks Left Left = ap (bit_or s.leftmask) (h ∙ sym (or_zero_r (bit_of name)))
-      masks Left Right = sym (or_zero_r s.rightmask)
-      masks Right Left = sym (or_zero_r s.leftmask)
-      masks Right Right = ap (bit_or s.rightmask) (h ∙ sym (or_zero_r (bit_of name)))
+      masks : (t u : Side) → mask_of u (after t) ≡ bit_or (mask_of u s) (letters_of (keep (goes_to u (Some t)) name))
+      masks Left Left = ap (bit_or s.left.mask) (sym (or_zero_r (bit_of name)))
+      masks Left Right = sym (or_zero_r s.right.mask)
+      masks Right Left = sym (or_zero_r s.left.mask)
+      masks Right Right = ap (bit_or s.right.mask) (sym (or_zero_r (bit_of name)))
 
-      sets : (t u : Side) → set_of u (with_bits t a x s) ≡ bit_or (set_of u s) (compounds_of (keep (goes_to u (Some t)) name))
-      sets Left Left = ap (bit_or s.leftset) (k ∙ sym (or_zero_r (compound_bit name)))
-      sets Left Right = sym (or_zero_r s.rightset)
-      sets Right Left = sym (or_zero_r s.leftset)
-      sets Right Right = ap (bit_or s.rightset) (k ∙ sym (or_zero_r (compound_bit name)))
+      sets : (t u : Side) → set_of u (after t) ≡ bit_or (set_of u s) (compounds_of (keep (goes_to u (Some t)) name))
+      sets Left Left = ap (bit_or s.left.set) (sym (or_zero_r (compound_bit name)))
+      sets Left Right = sym (or_zero_r s.right.set)
+      sets Right Left = sym (or_zero_r s.left.set)
+      sets Right Right = ap (bit_or s.right.set) (sym (or_zero_r (compound_bit name)))
 
   pub with_none : (to : Option Side) → to ≡ None → With to name s s
   with_none to e =
@@ -74,7 +79,7 @@ module _ (name : ℕ) (s : Running) where
         sets = λ u. sym (or_zero_r (set_of u s)) ∙ ap (λ (o : Option Side). bit_or (set_of u s) (compounds_of (keep (goes_to u o) name))) (sym e);
       }
 
-pub joined_made : (m n : ℕ) (s a b : Running) (p : Placing) (f g : ℕ) → With p.f f (record s { lefts = m; rights = n }) a → With p.g g a b → Joined m n p f g s b
+pub joined_made : (m n : ℕ) (s a b : Running) (p : Placing) (f g : ℕ) → With p.f f (record s { left = record (s.left) { count = m }; right = record (s.right) { count = n } }) a → With p.g g a b → Joined m n p f g s b
 joined_made m n s a b p f g h k =
     record {
       on_left = k.on_left ∙ h.on_left;
@@ -83,11 +88,11 @@ joined_made m n s a b p f g h k =
       sets = λ t. both compound_bit t (set_of t s) (set_of t a) (set_of t b) (h.sets t ∙ ap (λ (u : ℕ). bit_or u (compounds_of (keep (goes_to t p.f) f))) (same_set t)) (k.sets t);
     }
   where
-    same_mask : (t : Side) → mask_of t (record s { lefts = m; rights = n }) ≡ mask_of t s
+    same_mask : (t : Side) → mask_of t (record s { left = record (s.left) { count = m }; right = record (s.right) { count = n } }) ≡ mask_of t s
     same_mask Left = refl
     same_mask Right = refl
 
-    same_set : (t : Side) → set_of t (record s { lefts = m; rights = n }) ≡ set_of t s
+    same_set : (t : Side) → set_of t (record s { left = record (s.left) { count = m }; right = record (s.right) { count = n } }) ≡ set_of t s
     same_set Left = refl
     same_set Right = refl
 

@@ -67,10 +67,10 @@ module _ {c : Pass} {f : ℕ} {zs l n : List ℕ} (h : Stored (pass 0 0 0) c f z
       let i : k + (c.to - k) ≡ c.to = omega (arith, count) in
       take_drop k (c.to - k) n (omega (arith, within, count)) ∙ ap (λ (j : ℕ). slice k j n) i ∙ ap (drop k) both ∙ drop_at xs ys k (sym d)
 
-  two_sides : (r : Running) → r.lefts ≡ k → r.rights ≡ c.to - k → view r n ≡ record { on_left = xs; on_right = ys }
+  two_sides : (r : Running) → r.left.count ≡ k → r.right.count ≡ c.to - k → view r n ≡ record { on_left = xs; on_right = ys }
   two_sides r u v = λ i. record {
     on_left = (ap (λ (m : ℕ). take m n) u ∙ left_side) i;
-    on_right = (ap (λ (m : ℕ). take r.rights (drop m n)) u ∙ ap (λ (m : ℕ). take m (drop k n)) v ∙ right_side) i;
+    on_right = (ap (λ (m : ℕ). take r.right.count (drop m n)) u ∙ ap (λ (m : ℕ). take m (drop k n)) v ∙ right_side) i;
   }
 
   two_stores : c.stores ≡ size (record { on_left = xs; on_right = ys })
@@ -87,27 +87,27 @@ module _ {c : Pass} {f : ℕ} {zs l n : List ℕ} (h : Stored (pass 0 0 0) c f z
 
 -- ---- the premise
 
-module _ (s : Running) (old : List ℕ) (full : length old ≡ ROOM) (room : s.lefts + s.rights ≤ ROOM) (p : Placing) (f g : ℕ) (at : ℕ) where
+module _ (s : Running) (old : List ℕ) (full : length old ≡ ROOM) (room : s.left.count + s.right.count ≤ ROOM) (p : Placing) (f g : ℕ) (at : ℕ) where
   -- the names of each side of the premise
   abbrev pub left_run : Side → List ℕ
-  left_run Left = slice 0 at old ++ (parts_on Left p f g ++ slice (at + 1) s.lefts old)
-  left_run Right = slice 0 s.lefts old ++ parts_on Left p f g
+  left_run Left = slice 0 at old ++ (parts_on Left p f g ++ slice (at + 1) s.left.count old)
+  left_run Right = slice 0 s.left.count old ++ parts_on Left p f g
 
   abbrev pub right_run : Side → List ℕ
-  right_run Left = slice s.lefts (s.lefts + s.rights) old ++ parts_on Right p f g
-  right_run Right = slice s.lefts (s.lefts + at) old ++ (parts_on Right p f g ++ slice (s.lefts + at + 1) (s.lefts + s.rights) old)
+  right_run Left = slice s.left.count (s.left.count + s.right.count) old ++ parts_on Right p f g
+  right_run Right = slice s.left.count (s.left.count + at) old ++ (parts_on Right p f g ++ slice (s.left.count + at + 1) (s.left.count + s.right.count) old)
 
   -- as the pass stores them
   abbrev pub run : Side → List ℕ
-  run Left = (slice 0 at old ++ parts_on Left p f g) ++ (slice (at + 1) (s.lefts + s.rights) old ++ parts_on Right p f g)
-  run Right = ((slice 0 s.lefts old ++ parts_on Left p f g) ++ (slice s.lefts (s.lefts + at) old ++ parts_on Right p f g)) ++ slice (s.lefts + at + 1) (s.lefts + s.rights) old
+  run Left = (slice 0 at old ++ parts_on Left p f g) ++ (slice (at + 1) (s.left.count + s.right.count) old ++ parts_on Right p f g)
+  run Right = ((slice 0 s.left.count old ++ parts_on Left p f g) ++ (slice s.left.count (s.left.count + at) old ++ parts_on Right p f g)) ++ slice (s.left.count + at + 1) (s.left.count + s.right.count) old
 
   run_sides : (t : Side) → at < count_of t s → run t ≡ left_run t ++ right_run t
-  run_sides Left h = rw (sym (slice_join (at + 1) s.lefts (s.lefts + s.rights) old (omega arith) (omega arith) (omega arith))) (simp append_assoc)
+  run_sides Left h = rw (sym (slice_join (at + 1) s.left.count (s.left.count + s.right.count) old (omega arith) (omega arith) (omega arith))) (simp append_assoc)
   run_sides Right h = simp append_assoc
 
-  right_view : take s.rights (drop s.lefts old) ≡ slice s.lefts (s.lefts + s.rights) old
-  right_view = take_drop s.lefts s.rights old (omega arith)
+  right_view : take s.right.count (drop s.left.count old) ≡ slice s.left.count (s.left.count + s.right.count) old
+  right_view = take_drop s.left.count s.right.count old (omega arith)
 
   to_left : on Left (placed p f g) ≡ parts_on Left p f g
   to_left = on_left (parts_on Left p f g) (parts_on Right p f g)
@@ -117,31 +117,31 @@ module _ (s : Running) (old : List ℕ) (full : length old ≡ ROOM) (room : s.l
 
   pub premise_runs : (t : Side) → at < count_of t s → premise t at (view s old) (placed p f g) ≡ record { on_left = left_run t; on_right = right_run t }
   premise_runs Left h = λ i. record {
-    on_left = (ap (λ (ps : List ℕ). splice at ps (take s.lefts old)) to_left ∙ splice_slice 0 at at s.lefts (parts_on Left p f g) old (omega arith) h (omega arith)) i;
-    on_right = (ap (λ (v : List ℕ). v ++ on Right (placed p f g)) right_view ∙ ap (λ (ps : List ℕ). slice s.lefts (s.lefts + s.rights) old ++ ps) to_right) i;
+    on_left = (ap (λ (ps : List ℕ). splice at ps (take s.left.count old)) to_left ∙ splice_slice 0 at at s.left.count (parts_on Left p f g) old (omega arith) h (omega arith)) i;
+    on_right = (ap (λ (v : List ℕ). v ++ on Right (placed p f g)) right_view ∙ ap (λ (ps : List ℕ). slice s.left.count (s.left.count + s.right.count) old ++ ps) to_right) i;
   }
   premise_runs Right h = λ i. record {
-    on_left = ap (λ (ps : List ℕ). take s.lefts old ++ ps) to_left i;
-    on_right = (ap (λ (v : List ℕ). splice at (on Right (placed p f g)) v) right_view ∙ ap (λ (ps : List ℕ). splice at ps (slice s.lefts (s.lefts + s.rights) old)) to_right
-        ∙ splice_slice s.lefts at (s.lefts + at) (s.lefts + s.rights) (parts_on Right p f g) old refl (omega arith) (omega arith)) i;
+    on_left = ap (λ (ps : List ℕ). take s.left.count old ++ ps) to_left i;
+    on_right = (ap (λ (v : List ℕ). splice at (on Right (placed p f g)) v) right_view ∙ ap (λ (ps : List ℕ). splice at ps (slice s.left.count (s.left.count + s.right.count) old)) to_right
+        ∙ splice_slice s.left.count at (s.left.count + at) (s.left.count + s.right.count) (parts_on Right p f g) old refl (omega arith) (omega arith)) i;
   }
 
   -- the names of both sides, less the one that makes way
   premise_size : (t : Side) → at < count_of t s
-      → size (premise t at (view s old) (placed p f g)) + 1 ≡ s.lefts + s.rights + length (parts_on Left p f g) + length (parts_on Right p f g)
+      → size (premise t at (view s old) (placed p f g)) + 1 ≡ s.left.count + s.right.count + length (parts_on Left p f g) + length (parts_on Right p f g)
   premise_size Left h =
-      omega (arith, ap size (premise_runs Left h), sides_size (left_run Left) (right_run Left), splice_length 0 at s.lefts (parts_on Left p f g) old (omega arith) h (omega arith), end_length s.lefts (s.lefts + s.rights) (parts_on Right p f g) old (omega arith) (omega arith))
+      omega (arith, ap size (premise_runs Left h), sides_size (left_run Left) (right_run Left), splice_length 0 at s.left.count (parts_on Left p f g) old (omega arith) h (omega arith), end_length s.left.count (s.left.count + s.right.count) (parts_on Right p f g) old (omega arith) (omega arith))
   premise_size Right h =
-      omega (arith, ap size (premise_runs Right h), sides_size (left_run Right) (right_run Right), end_length 0 s.lefts (parts_on Left p f g) old (omega arith) (omega arith), splice_length s.lefts (s.lefts + at) (s.lefts + s.rights) (parts_on Right p f g) old (omega arith) (omega arith) (omega arith))
+      omega (arith, ap size (premise_runs Right h), sides_size (left_run Right) (right_run Right), end_length 0 s.left.count (parts_on Left p f g) old (omega arith) (omega arith), splice_length s.left.count (s.left.count + at) (s.left.count + s.right.count) (parts_on Right p f g) old (omega arith) (omega arith) (omega arith))
 
   -- so they fit, if the premise does
   pub premise_fits : (t : Side) → at < count_of t s → size (premise t at (view s old) (placed p f g)) ≤ ROOM
-      → s.lefts + s.rights + length (parts_on Left p f g) + length (parts_on Right p f g) ≤ ROOM + 1
+      → s.left.count + s.right.count + length (parts_on Left p f g) + length (parts_on Right p f g) ≤ ROOM + 1
   premise_fits t h k = omega (arith, premise_size t h)
 
-  module _ (t : Side) (h : at < count_of t s) {c : Pass} {l n : List ℕ} (stored : Stored (pass 0 0 0) c (s.lefts + s.rights) (run t) l n)
+  module _ (t : Side) (h : at < count_of t s) {c : Pass} {l n : List ℕ} (stored : Stored (pass 0 0 0) c (s.left.count + s.right.count) (run t) l n)
       (k : ℕ) (e : k ≡ length (left_run t)) where
-    pub premise_made : length l ≡ ROOM → (r : Running) → Joined k (c.to - k) p f g s r → Builds t at p f g s old l n (record { running = r; stores = c.stores })
+    pub premise_made : length l ≡ ROOM → (r : Running) → Joined k (c.to - k) p f g s r → Builds t at p f g s old l n (record { value = r; stores = c.stores })
     premise_made z r d =
         record {
           held = two_sides stored (left_run t) (right_run t) (run_sides t h) k e r d.on_left d.on_right ∙ sym (premise_runs t h);

@@ -23,12 +23,12 @@ none_before xs h =
     let z : length (take k xs) ≡ k = length-take-le k xs (omega arith) in
     past_first (take k xs) (drop k xs) k (ap first_in (sym (take-append-drop k xs))) (omega arith) ∙ z
 
-module _ (s : Running) (old : List ℕ) (full : length old ≡ ROOM) (room : s.lefts + s.rights ≤ ROOM) where
-  left_count : length (view s old).on_left ≡ s.lefts
-  left_count = length-take-le s.lefts old (omega arith)
+module _ (s : Running) (old : List ℕ) (full : length old ≡ ROOM) (room : s.left.count + s.right.count ≤ ROOM) where
+  left_count : length (view s old).on_left ≡ s.left.count
+  left_count = length-take-le s.left.count old (omega arith)
 
-  right_count : length (view s old).on_right ≡ s.rights
-  right_count = length-take-le s.rights (drop s.lefts old) (omega (arith, length-drop s.lefts old))
+  right_count : length (view s old).on_right ≡ s.right.count
+  right_count = length-take-le s.right.count (drop s.left.count old) (omega (arith, length-drop s.left.count old))
 
   -- a premise may be made there
   pub found_inside : (t : Side) (i : ℕ) → FoundAt (view s old) t i → i < count_of t s
@@ -40,20 +40,20 @@ module _ (s : Running) (old : List ℕ) (full : length old ≡ ROOM) (room : s.l
   found_name Left i h =
       let xs = (view s old).on_left in
       let f : LETTERS ≤ get_or xs i 0 = rw h.0 (first_compound xs (rw h.0 at h.1)) in
-      rw (get_or-take s.lefts old i 0 (omega (arith, found_inside Left i h))) at f
+      rw (get_or-take s.left.count old i 0 (omega (arith, found_inside Left i h))) at f
   found_name Right i h =
       let xs = (view s old).on_right in
       let f : LETTERS ≤ get_or xs i 0 = rw h.1 (first_compound xs (rw h.1 at h.2)) in
-      rw (get_or-take s.rights (drop s.lefts old) i 0 (omega (arith, found_inside Right i h)), get_or-drop s.lefts old i 0) at f
+      rw (get_or-take s.right.count (drop s.left.count old) i 0 (omega (arith, found_inside Right i h)), get_or-drop s.left.count old i 0) at f
 
   -- what stands before the place is kept, and there is no compound in it
   pub restarts : (t : Side) (i : ℕ) → FoundAt (view s old) t i → (ps : List (Put ℕ)) (r : Running) (new : List ℕ)
-      → view r new ≡ premise t i (view s old) ps → (start_of t i s ≤ r.lefts) × (first_in (take (start_of t i s) new) ≡ start_of t i s)
+      → view r new ≡ premise t i (view s old) ps → (start_of t i s ≤ r.left.count) × (first_in (take (start_of t i s) new) ≡ start_of t i s)
   restarts Left i h ps r new e =
-      let xs = take s.lefts old in
+      let xs = take s.left.count old in
       let z : length (take i xs) ≡ i = length-take-le i xs (omega (arith, h.1)) in
-      let w = same_start i r.lefts new (take i xs) (on Left ps ++ drop (suc i) xs) z (ap (λ (S : Seq ℕ). S.on_left) e) in
+      let w = same_start i r.left.count new (take i xs) (on Left ps ++ drop (suc i) xs) z (ap (λ (S : Seq ℕ). S.on_left) e) in
       (w.0, rw (w.1, h.0) (none_before xs (rw h.0 at h.1)))
   restarts Right i h ps r new e =
-      let w = same_start s.lefts r.lefts new (take s.lefts old) (on Left ps) left_count (ap (λ (S : Seq ℕ). S.on_left) e) in
+      let w = same_start s.left.count r.left.count new (take s.left.count old) (on Left ps) left_count (ap (λ (S : Seq ℕ). S.on_left) e) in
       (w.0, ap first_in w.1 ∙ h.0 ∙ left_count)

@@ -15,19 +15,19 @@ use Rattle.sequent.proofs.Sets.{meeting}
 abbrev pub Before : Running → List ℕ → ℕ → Type 0
 Before s items i = (m n : ℕ) → m < i → EqualAt (view s items) m n → ⊥
 
-module _ (s : Running) (items : List ℕ) (places : length items ≡ ROOM) (room : s.lefts + s.rights ≤ ROOM) where
+module _ (s : Running) (items : List ℕ) (places : length items ≡ ROOM) (room : s.left.count + s.right.count ≤ ROOM) where
   -- each side's names are as many as its count says
   pub held : (t : Side) → length (on_side t (view s items)) ≡ count_of t s
-  held Left = length-take-le s.lefts items (omega (arith, places))
-  held Right = length-take-le s.rights (drop s.lefts items) (omega (arith, places, length-drop s.lefts items))
+  held Left = length-take-le s.left.count items (omega (arith, places))
+  held Right = length-take-le s.right.count (drop s.left.count items) (omega (arith, places, length-drop s.left.count items))
 
   pub slot_name : (t : Side) (i : ℕ) → i < count_of t s → get_or items (slot_of t i s) 0 ≡ name_at t i (view s items)
-  slot_name Left i k = sym (get_or-take s.lefts items i 0 k)
-  slot_name Right i k = sym (get_or-take s.rights (drop s.lefts items) i 0 k ∙ get_or-drop s.lefts items i 0)
+  slot_name Left i k = sym (get_or-take s.left.count items i 0 k)
+  slot_name Right i k = sym (get_or-take s.right.count (drop s.left.count items) i 0 k ∙ get_or-drop s.left.count items i 0)
 
   -- the sets do not meet
-  pub apart : Covered s items → bit_and s.leftset s.rightset ≡ 0 → Paired (view s items) None
+  pub apart : Covered s items → bit_and s.left.set s.right.set ≡ 0 → Paired (view s items) None
   apart covered z m n e =
-      meeting s.leftset s.rightset (name_at Left m (view s items)) e.compound
-      (each_at (Member s.leftset) (view s items).on_left m 0 (covered Left) e.left)
-      (rw e.equal (each_at (Member s.rightset) (view s items).on_right n 0 (covered Right) e.right)) z
+      meeting s.left.set s.right.set (name_at Left m (view s items)) e.compound
+      (each_at (Member s.left.set) (view s items).on_left m 0 (covered Left) e.left)
+      (rw e.equal (each_at (Member s.right.set) (view s items).on_right n 0 (covered Right) e.right)) z

@@ -10,7 +10,7 @@ use Rattle.calculus.specs.Tree.{Twins, unlike, alike}
 use Rattle.sequent.specs.declared.Placing.{Placing}
 use Rattle.sequent.specs.declared.Running.{Running}
 use Rattle.sequent.specs.declared.Reduction.{Reduction}
-use Rattle.sequent.specs.declared.Pair.{Pair}
+use Rattle.calculus.specs.declared.Pair.{Pair}
 use Rattle.sequent.specs.declared.Place.{Place}
 use Rattle.sequent.specs.Names.{formula_in, node_of, connective_of, first_of, second_of}
 use Rattle.sequent.specs.Rule.{rule_of, placed}
@@ -25,7 +25,7 @@ first_in (x ∷ xs) = choose (ltb x LETTERS) (suc (first_in xs)) 0
 
 -- letters alone stand before a place of the list
 pub record Clear (from : ℕ) (items : List ℕ) (s : Running) : Type 0 where
-  pub inside : from ≤ s.lefts + s.rights
+  pub inside : from ≤ s.left.count + s.right.count
   pub letters : first_in (take from items) ≡ from
 
 -- "the first formula with a connective, the left side before the right", at a place of a side
@@ -53,12 +53,12 @@ pub record EqualAt (N : Seq ℕ) (i j : ℕ) : Type 0 where
   pub equal : name_at Left i N ≡ name_at Right j N
 
 -- "the lowest left place that has an equal on the right, with the lowest such right place"
-abbrev pub Paired : Seq ℕ → Option Pair → Type 0
+abbrev pub Paired : Seq ℕ → Option (Pair ℕ) → Type 0
 Paired N (Some p) = EqualAt N p.left p.right × ((m n : ℕ) → EqualAt N m n → (p.left ≤ m) × (m ≡ p.left → p.right ≤ n))
 Paired N None = (m n : ℕ) → EqualAt N m n → ⊥
 
 -- document 02's pair
-abbrev pub twins_of : Option Pair → Twins
+abbrev pub twins_of : Option (Pair ℕ) → Twins
 twins_of (Some p) = alike p.left p.right
 twins_of None = unlike
 
@@ -79,27 +79,27 @@ compound_at T t i N = compound_of (formula_in T (name_at t i N))
 
 -- its reduction, by its node
 abbrev pub reduction_at : List ℕ → Side → ℕ → Seq ℕ → Reduction
-reduction_at T t i N = record { side = t; at = i; node = node_of T (name_at t i N) }
+reduction_at T t i N = record { place = record { side = t; at = i }; node = node_of T (name_at t i N) }
 
 -- the row of the table that a reduction goes by
 abbrev pub rule_for : Reduction → List Placing
-rule_for r = rule_of (connective_of (r.node % 256)) r.side
+rule_for r = rule_of (connective_of (r.node % 256)) r.place.side
 
 -- ---- premises
 
 -- the premises of a reduction
 abbrev pub premises_at : List ℕ → List ℕ → Running → Reduction → List Sequent
-premises_at T items s r = premises r.side r.at (compound_at T r.side r.at (view s items)) (sequent_of T items s)
+premises_at T items s r = premises r.place.side r.place.at (compound_at T r.place.side r.place.at (view s items)) (sequent_of T items s)
 
 -- the premise in which the parts go where p says
 abbrev pub premise_by : List ℕ → List ℕ → Running → Reduction → Placing → Sequent
-premise_by T items s r p = named (formula_in T) (premise r.side r.at (view s items) (placed p (first_of r.node) (second_of r.node)))
+premise_by T items s r p = named (formula_in T) (premise r.place.side r.place.at (view s items) (placed p (first_of r.node) (second_of r.node)))
 
 -- a reduction that can be made: a compound stands at its place, and no premise is too long
 pub record Reducible (T items : List ℕ) (s : Running) (r : Reduction) : Type 0 where
-  pub inside : r.at < count_of r.side s
-  pub compound : LETTERS ≤ name_at r.side r.at (view s items)
-  pub exact : r ≡ reduction_at T r.side r.at (view s items)
+  pub inside : r.place.at < count_of r.place.side s
+  pub compound : LETTERS ≤ name_at r.place.side r.place.at (view s items)
+  pub exact : r ≡ reduction_at T r.place.side r.place.at (view s items)
   pub fits : Each (λ P. size P ≤ ROOM) (premises_at T items s r)
 
 -- a premise of it can be made, and has less connectives

@@ -8,7 +8,7 @@ use Rattle.calculus.specs.Table.{premise}
 use Rattle.sequent.specs.declared.Placing.{Placing}
 use Rattle.sequent.specs.declared.Pass.{Pass}
 use Rattle.sequent.specs.declared.Running.{Running}
-use Rattle.sequent.specs.declared.Built.{Built}
+use Rattle.sequent.specs.declared.Counted.{Counted}
 use Rattle.sequent.specs.Rule.{parts_on, placed}
 use Rattle.sequent.specs.View.{view, mask_of, set_of, letters_of, compounds_of}
 
@@ -34,12 +34,12 @@ listed N = N.on_left ++ N.on_right
 
 -- a premise of a reduction at a place of a side. What is stored is its list, from the first place to the last, whatever the places
 -- held before, and nothing behind it: so many stores as it has formulas
-pub record Builds (t : Side) (at : ℕ) (p : Placing) (f g : ℕ) (s : Running) (old before new : List ℕ) (b : Built) : Type 0 where
-  pub held : view b.running new ≡ premise t at (view s old) (placed p f g)
+pub record Builds (t : Side) (at : ℕ) (p : Placing) (f g : ℕ) (s : Running) (old before new : List ℕ) (b : Counted Running) : Type 0 where
+  pub held : view b.value new ≡ premise t at (view s old) (placed p f g)
   pub stored : take b.stores new ≡ listed (premise t at (view s old) (placed p f g))
   pub behind : drop b.stores new ≡ drop b.stores before
   pub stores : b.stores ≡ size (premise t at (view s old) (placed p f g))
-  pub counted : b.running.lefts + b.running.rights ≡ b.stores
+  pub counted : b.value.left.count + b.value.right.count ≡ b.stores
   pub full : length new ≡ ROOM
-  pub masks : (u : Side) → mask_of u b.running ≡ bit_or (mask_of u s) (letters_of (parts_on u p f g))
-  pub sets : (u : Side) → set_of u b.running ≡ bit_or (set_of u s) (compounds_of (parts_on u p f g))
+  pub masks : (u : Side) → mask_of u b.value ≡ bit_or (mask_of u s) (letters_of (parts_on u p f g))
+  pub sets : (u : Side) → set_of u b.value ≡ bit_or (set_of u s) (compounds_of (parts_on u p f g))

@@ -8,6 +8,7 @@ use Rattle.calculus.specs.Limits.{ROOM, LETTERS, CONNECTIVES}
 use Rattle.calculus.specs.Syntax.{Seq, Sequent, on_side}
 use Rattle.calculus.specs.Truth.{bit}
 use Rattle.sequent.specs.declared.Placing.{Placing}
+use Rattle.sequent.specs.declared.Half.{Half}
 use Rattle.sequent.specs.declared.Running.{Running}
 use Rattle.sequent.specs.Names.{formula_in, Known, Distinct}
 use Rattle.sequent.specs.Rule.{goes_to, keep, parts_on}
@@ -16,34 +17,35 @@ use Rattle.sequent.specs.Rule.{goes_to, keep, parts_on}
 
 -- the names of a running sequent: the left side's, then the right side's
 abbrev pub view : Running → List ℕ → Seq ℕ
-view s items = record { on_left = take s.lefts items; on_right = take s.rights (drop s.lefts items) }
+view s items = record { on_left = take s.left.count items; on_right = take s.right.count (drop s.left.count items) }
+
+abbrev pub half : Side → Running → Half
+half Left s = s.left
+half Right s = s.right
 
 abbrev pub count_of : Side → Running → ℕ
-count_of Left s = s.lefts
-count_of Right s = s.rights
+count_of t s = (half t s).count
 
 abbrev pub mask_of : Side → Running → ℕ
-mask_of Left s = s.leftmask
-mask_of Right s = s.rightmask
+mask_of t s = (half t s).mask
 
 abbrev pub set_of : Side → Running → ℕ
-set_of Left s = s.leftset
-set_of Right s = s.rightset
+set_of t s = (half t s).set
 
 -- where the name at a place of a side stands in the list
 abbrev pub slot_of : Side → ℕ → Running → ℕ
 slot_of Left i s = i
-slot_of Right i s = s.lefts + i
+slot_of Right i s = s.left.count + i
 
 -- where a side's names end in the list
 abbrev pub end_of : Side → Running → ℕ
-end_of Left s = s.lefts
-end_of Right s = s.lefts + s.rights
+end_of Left s = s.left.count
+end_of Right s = s.left.count + s.right.count
 
 -- where a premise of a reduction at a place of a side is searched from
 abbrev pub start_of : Side → ℕ → Running → ℕ
 start_of Left i s = i
-start_of Right i s = s.lefts
+start_of Right i s = s.left.count
 
 -- the name at a place of a side
 abbrev pub name_at : Side → ℕ → Seq ℕ → ℕ
@@ -92,17 +94,21 @@ Member a x = LETTERS ≤ x → bit (x % 64) a ≡ true
 abbrev pub Covered : Running → List ℕ → Type 0
 Covered s items = (t : Side) → Each (Member (set_of t s)) (on_side t (view s items))
 
+-- a side with the bits of a name
+abbrev pub grown : ℕ → Half → Half
+grown x h = record { count = h.count; mask = bit_or h.mask (bit_of x); set = bit_or h.set (compound_bit x) }
+
 -- the bit of a part beside those of s, if it goes to a side, and as many places
 pub record With (to : Option Side) (name : ℕ) (s r : Running) : Type 0 where
-  pub on_left : r.lefts ≡ s.lefts
-  pub on_right : r.rights ≡ s.rights
+  pub on_left : r.left.count ≡ s.left.count
+  pub on_right : r.right.count ≡ s.right.count
   pub masks : (t : Side) → mask_of t r ≡ bit_or (mask_of t s) (letters_of (keep (goes_to t to) name))
   pub sets : (t : Side) → set_of t r ≡ bit_or (set_of t s) (compounds_of (keep (goes_to t to) name))
 
 -- so many places on each side, and the letters and compounds of a premise's parts beside those of s
 pub record Joined (lefts rights : ℕ) (p : Placing) (f g : ℕ) (s r : Running) : Type 0 where
-  pub on_left : r.lefts ≡ lefts
-  pub on_right : r.rights ≡ rights
+  pub on_left : r.left.count ≡ lefts
+  pub on_right : r.right.count ≡ rights
   pub masks : (t : Side) → mask_of t r ≡ bit_or (mask_of t s) (letters_of (parts_on t p f g))
   pub sets : (t : Side) → set_of t r ≡ bit_or (set_of t s) (compounds_of (parts_on t p f g))
 
@@ -112,7 +118,7 @@ pub record Joined (lefts rights : ℕ) (p : Placing) (f g : ℕ) (s r : Running)
 pub record Good (T items : List ℕ) (s : Running) : Type 0 where
   pub nodes : length T ≡ CONNECTIVES
   pub places : length items ≡ ROOM
-  pub room : s.lefts + s.rights ≤ ROOM
+  pub room : s.left.count + s.right.count ≤ ROOM
   pub used : ℕ
   pub few : used ≤ CONNECTIVES
   pub distinct : Distinct T used

@@ -4,7 +4,6 @@
 ghost use Rattle.std.specs.Prelude.{◌≡◌, [], ◌∷◌, ◌++◌, ◌+◌, ◌-◌, ◌%◌, ◌≤◌, ◌<◌, length};
 ghost use Rattle.std.proofs.Math.Seq.{slice};
 ghost use Rattle.calculus.specs.declared.Side.TheVariants.{Left, Right};
-ghost use Rattle.std.specs.Int.Bits.{bit_or};
 ghost use Rattle.calculus.specs.Limits;
 ghost use Rattle.calculus.specs.Syntax.{Connective as Defined, size};
 ghost use Rattle.calculus.specs.Bytes.{CONNECTIVE, code};
@@ -13,7 +12,7 @@ ghost use Rattle.question.specs.Connectives.{connective_of, command_of};
 ghost use Rattle.sequent.specs.Names.{first_of, second_of};
 ghost use Rattle.sequent.specs.Rule.{rule_of, goes_to, keep, parts_on, placed};
 ghost use Rattle.sequent.specs.View.{view, count_of, slot_of, end_of, start_of, bit_of, compound_bit};
-ghost use Rattle.sequent.specs.View.{Covered, With, Joined, Good, name_at};
+ghost use Rattle.sequent.specs.View.{grown, Covered, With, Joined, Good, name_at};
 ghost use Rattle.sequent.specs.Passes.{Fits, Stored, Builds};
 ghost use Rattle.sequent.specs.Compounds.{Clear, Found, Stands, Paired, rule_for, reduction_at};
 
@@ -38,9 +37,7 @@ pub struct Half {
 impl Half {
     // With the bits of a name.
     fn with(self, name: u8) -> Half
-        ensures { (result.count ≡ self.count)
-            × (result.mask ≡ bit_or self.mask (bit_of name))
-            × (result.set ≡ bit_or self.set (compound_bit name)) }
+        ensures { result ≡ grown name self }
     {
         Half {
             mask: self.mask | letter_bit(name),

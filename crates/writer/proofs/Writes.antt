@@ -123,10 +123,10 @@ chain_theorem (P ∷ Ps) h =
 -- A theorem that is reduced has theorems for premises, and its derivation is the command and theirs.
 module _ {T items : List ℕ} {s : Running} {r : Reduction} (w : Stepped T items s 1 (Reduce r)) (h : Provable (sequent_of T items s)) where
   abbrev x : Compound
-  x = compound_at T r.side r.at (view s items)
+  x = compound_at T r.place.side r.place.at (view s items)
 
-  grown : tree (sequent_of T items s) ≡ under (reduce r.side r.at x.connective) (chain tree (premises_at T items s r))
-  grown = reduced_tree (sequent_of T items s) r.side r.at x w.inner
+  grown : tree (sequent_of T items s) ≡ under (reduce r.place.side r.place.at x.connective) (chain tree (premises_at T items s r))
+  grown = reduced_tree (sequent_of T items s) r.place.side r.place.at x w.inner
 
   chained : Each Provable (premises_at T items s r) × (written_all (chain tree (premises_at T items s r)).events ≡ derivations (premises_at T items s r))
   chained = chain_theorem (premises_at T items s r) (ap (λ (t : Tree). t.end) (sym grown) ∙ h)
@@ -134,23 +134,23 @@ module _ {T items : List ℕ} {s : Running} {r : Reduction} (w : Stepped T items
   pub due_provable : Each Provable (premises_at T items s r)
   due_provable = chained.0
 
-  pub due_derivation : derivation (sequent_of T items s) ≡ order_code (REDUCE r.side x.connective) ∷ r.at ∷ derivations (premises_at T items s r)
-  due_derivation = ap (λ (t : Tree). written_all t.events) grown ∙ ap (λ (bs : List ℕ). order_code (REDUCE r.side x.connective) ∷ r.at ∷ bs) chained.1
+  pub due_derivation : derivation (sequent_of T items s) ≡ order_code (REDUCE r.place.side x.connective) ∷ r.place.at ∷ derivations (premises_at T items s r)
+  due_derivation = ap (λ (t : Tree). written_all t.events) grown ∙ ap (λ (bs : List ℕ). order_code (REDUCE r.place.side x.connective) ∷ r.place.at ∷ bs) chained.1
 
   pub due_long : length (derivation (sequent_of T items s)) ≡ 2 + length (derivations (premises_at T items s r))
   due_long = omega (arith, ap length due_derivation)
 
   -- the command is stored, and the premises' derivations behind it
-  pub due_written : (out : List ℕ) → length (derivation (sequent_of T items s)) ≤ length out → (b : ℕ) → b ≡ order_code (REDUCE r.side x.connective)
-      → (n : ℕ) → n ≡ 2 → (put : List ℕ) → put ≡ sets out 0 (b ∷ r.at ∷ []) → {count : ℕ} {last : List ℕ} {e : Emitted}
+  pub due_written : (out : List ℕ) → length (derivation (sequent_of T items s)) ≤ length out → (b : ℕ) → b ≡ order_code (REDUCE r.place.side x.connective)
+      → (n : ℕ) → n ≡ 2 → (put : List ℕ) → put ≡ sets out 0 (b ∷ r.place.at ∷ []) → {count : ℕ} {last : List ℕ} {e : Emitted}
       → Emits (derivations (premises_at T items s r)) count (take (length put - n) (drop n put)) last e
       → (n + e.length ≡ length (derivation (sequent_of T items s))) × (take n put ++ (last ++ drop (length put - n) (drop n put)) ≡ sets out 0 (derivation (sequent_of T items s)))
   due_written out room b command n two put stored {count} {last} {e} u =
       let ds = derivations (premises_at T items s r) in
-      let fits : n + length ds ≤ length put = omega (arith, due_long, ap length stored, length-sets out 0 (b ∷ r.at ∷ [])) in (
+      let fits : n + length ds ≤ length put = omega (arith, due_long, ap length stored, length-sets out 0 (b ∷ r.place.at ∷ [])) in (
         omega (arith, u.long, due_long),
-        part_sets put last n ds fits u.written ∙ ap (λ (i : ℕ). sets put i ds) two ∙ ap (λ (l : List ℕ). sets l 2 ds) stored ∙ sets_append out 0 (b ∷ r.at ∷ []) ds
-            ∙ ap (λ (k : ℕ). sets out 0 (k ∷ r.at ∷ ds)) command ∙ ap (sets out 0) (sym due_derivation),
+        part_sets put last n ds fits u.written ∙ ap (λ (i : ℕ). sets put i ds) two ∙ ap (λ (l : List ℕ). sets l 2 ds) stored ∙ sets_append out 0 (b ∷ r.place.at ∷ []) ds
+            ∙ ap (λ (k : ℕ). sets out 0 (k ∷ r.place.at ∷ ds)) command ∙ ap (sets out 0) (sym due_derivation),
       )
 
 -- ---- the premises of a rule, one after the other
@@ -198,7 +198,7 @@ module _ {T items : List ℕ} {s : Running} {r : Reduction} {rule : List Placing
     ahead_within = omega (arith, a.place, a.long, a.room, ap length ahead_bytes, length-append (derivation next_premise) rest)
 
     -- the next premise can be made, it is a theorem, and there is room for its derivation
-    pub ahead_next : Makes T items s r (get_or rule j nowhere) × FoundAt (view s items) r.side r.at × Provable next_premise × (length (derivation next_premise) ≤ length (take (length new - bytes) (drop bytes new)))
+    pub ahead_next : Makes T items s r (get_or rule j nowhere) × FoundAt (view s items) r.place.side r.place.at × Provable next_premise × (length (derivation next_premise) ≤ length (take (length new - bytes) (drop bytes new)))
     ahead_next = (
       makes_next T items s a.reduction.good r a.reduction.can rule a.rows j h,
       a.reduction.found,

@@ -72,7 +72,7 @@ pub walk_premises-rule-rule-requires : goal.walk_premises-rule-rule-requires
 walk_premises-rule-rule-requires t c =
     let a = c.args in
     let h = c.requires in
-    ((compound_at a.t.nodes.now a.r.side a.r.at (view a.s a.t.items.now)).connective, sym (command_made a.t.nodes.now a.t.items.now a.s h.0 a.r h.2))
+    ((compound_at a.t.nodes.now a.r.place.side a.r.place.at (view a.s a.t.items.now)).connective, sym (command_made a.t.nodes.now a.t.items.now a.s h.0 a.r h.2))
 
 pub walk_premises-loop-p-init : goal.walk_premises-loop-p-init
 walk_premises-loop-p-init t c =

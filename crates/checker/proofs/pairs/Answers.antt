@@ -19,8 +19,8 @@ returns-then-s-j c =
 pub returns-then-t-i-lt-LETTERS : goal.returns-then-t-i-lt-LETTERS
 returns-then-t-i-lt-LETTERS c =
     let a = c.args in
-    let l : a.left < a.s.lefts = omega (arith, c.if-s-i.false, c.from-i.ensures) in
-    let r : a.right < a.s.rights = omega (arith, c.if-s-j.false, c.from-j.ensures) in
+    let l : a.left < a.s.left.count = omega (arith, c.if-s-i.false, c.from-i.ensures) in
+    let r : a.right < a.s.right.count = omega (arith, c.if-s-j.false, c.from-j.ensures) in
     let n : get_or a.t.items.now c.from-i.result 0 ≡ name_at Left a.left (view a.s a.t.items.now)
     = rw c.from-i.ensures (slot_name a.s a.t.items.now c.requires.places c.requires.room Left a.left l) in
     letter_paired a.t.nodes.now a.t.items.now a.s c.requires a.left a.right a.at l r (omega (arith, c.if-t-i-lt-LETTERS.true, n))
@@ -28,21 +28,21 @@ returns-then-t-i-lt-LETTERS c =
 pub returns-then-t-i : goal.returns-then-t-i
 returns-then-t-i c =
     let a = c.args in
-    let l : a.left < a.s.lefts = omega (arith, c.if-s-i.false, c.from-i.ensures) in
-    let r : a.right < a.s.rights = omega (arith, c.if-s-j.false, c.from-j.ensures) in
+    let l : a.left < a.s.left.count = omega (arith, c.if-s-i.false, c.from-i.ensures) in
+    let r : a.right < a.s.right.count = omega (arith, c.if-s-j.false, c.from-j.ensures) in
     let n : get_or a.t.items.now c.from-i.result 0 ≡ name_at Left a.left (view a.s a.t.items.now)
     = rw c.from-i.ensures (slot_name a.s a.t.items.now c.requires.places c.requires.room Left a.left l) in
-    let m : get_or a.t.items.now (a.s.lefts + c.from-j.result) 0 ≡ name_at Right a.right (view a.s a.t.items.now)
+    let m : get_or a.t.items.now (a.s.left.count + c.from-j.result) 0 ≡ name_at Right a.right (view a.s a.t.items.now)
     = rw c.from-j.ensures (slot_name a.s a.t.items.now c.requires.places c.requires.room Right a.right r) in
     names_differ a.t.nodes.now a.t.items.now a.s c.requires a.left a.right a.at l r (λ d. c.if-t-i.true (n ∙ d ∙ sym m))
 
 pub returns : goal.returns
 returns c =
     let a = c.args in
-    let l : a.left < a.s.lefts = omega (arith, c.if-s-i.false, c.from-i.ensures) in
-    let r : a.right < a.s.rights = omega (arith, c.if-s-j.false, c.from-j.ensures) in
+    let l : a.left < a.s.left.count = omega (arith, c.if-s-i.false, c.from-i.ensures) in
+    let r : a.right < a.s.right.count = omega (arith, c.if-s-j.false, c.from-j.ensures) in
     let n : get_or a.t.items.now c.from-i.result 0 ≡ name_at Left a.left (view a.s a.t.items.now)
     = rw c.from-i.ensures (slot_name a.s a.t.items.now c.requires.places c.requires.room Left a.left l) in
-    let m : get_or a.t.items.now (a.s.lefts + c.from-j.result) 0 ≡ name_at Right a.right (view a.s a.t.items.now)
+    let m : get_or a.t.items.now (a.s.left.count + c.from-j.result) 0 ≡ name_at Right a.right (view a.s a.t.items.now)
     = rw c.from-j.ensures (slot_name a.s a.t.items.now c.requires.places c.requires.room Right a.right r) in
     equal_paired a.t.nodes.now a.t.items.now a.s c.requires a.left a.right a.at l r (omega (arith, c.if-t-i-lt-LETTERS.false, n)) (sym n ∙ c.if-t-i.false ∙ m)

@@ -14,7 +14,7 @@ pub reduce-rule-rule-requires : goal.reduce-rule-rule-requires
 reduce-rule-rule-requires t c =
     let a = c.args in
     let h = c.requires.0 in
-    ((compound_at a.t.nodes.now a.r.side a.r.at (view a.s a.t.items.now)).connective, sym (command_made a.t.nodes.now a.t.items.now a.s h.good a.r h.can))
+    ((compound_at a.t.nodes.now a.r.place.side a.r.place.at (view a.s a.t.items.now)).connective, sym (command_made a.t.nodes.now a.t.items.now a.s h.good a.r h.can))
 
 pub reduce-loop-p-init : goal.reduce-loop-p-init
 reduce-loop-p-init t c =

@@ -19,7 +19,7 @@ pub emit-overflow_cast-k : goal.emit-overflow_cast-k
 emit-overflow_cast-k t c =
     let a = c.args in
     let S = sequent_of a.t.nodes.now a.t.items.now a.s in
-    let low : a.s.leftmask < 2 ^ LETTERS = omega arith in
+    let low : a.s.left.mask < 2 ^ LETTERS = omega arith in
     let small = rw (masks_state a.t.nodes.now a.t.items.now a.s c.requires.0 Left) at low in
     omega (arith, closed_small S c.in-Closed.k c.in-Closed.ensures.inner small)
 
@@ -28,7 +28,7 @@ emit-connective-requires t c =
     let a = c.args in
     let r = c.in-Reduce.r in
     let w = c.in-Reduce.ensures.ready in
-    ((compound_at a.t.nodes.now r.side r.at (view a.s a.t.items.now)).connective, sym (command_made a.t.nodes.now a.t.items.now a.s c.requires.0 r w.can))
+    ((compound_at a.t.nodes.now r.place.side r.place.at (view a.s a.t.items.now)).connective, sym (command_made a.t.nodes.now a.t.items.now a.s c.requires.0 r w.can))
 
 pub emit-overflow_cast-r : goal.emit-overflow_cast-r
 emit-overflow_cast-r t c =
@@ -68,7 +68,7 @@ emit-returns-in-Reduce t c =
     let w = c.in-Reduce.ensures in
     let p = c.put-n in
     let k = one_command c.connective.result _ (c.connective.ensures ∙ command_made a.t.nodes.now a.t.items.now a.s h.0 r w.ready.can) in
-    let command = c.command_of.ensures ∙ ap (λ (l : Connective). order_code (REDUCE r.side l)) k in
+    let command = c.command_of.ensures ∙ ap (λ (l : Connective). order_code (REDUCE r.place.side l)) k in
     due_written w h.2 a.out.now h.3 _ command p.result p.ensures.0 p.new.out p.ensures.1 c.emit_premises.ensures
 
 pub emit-unreachable-requires : goal.emit-unreachable-requires
@@ -112,7 +112,7 @@ pub emit_premises-rule-rule-requires : goal.emit_premises-rule-rule-requires
 emit_premises-rule-rule-requires t c =
     let a = c.args in
     let h = c.requires.0 in
-    ((compound_at a.t.nodes.now a.r.side a.r.at (view a.s a.t.items.now)).connective, sym (command_made a.t.nodes.now a.t.items.now a.s h.good a.r h.can))
+    ((compound_at a.t.nodes.now a.r.place.side a.r.place.at (view a.s a.t.items.now)).connective, sym (command_made a.t.nodes.now a.t.items.now a.s h.good a.r h.can))
 
 pub emit_premises-loop-p-init : goal.emit_premises-loop-p-init
 emit_premises-loop-p-init t c =

@@ -5,4 +5,4 @@ pub build-requires : goal.build-requires
 build-requires c =
     let a = c.args in
     let h = c.requires in
-    (h.0, h.1, rw c.to_le_bytes.ensures (premise_fits a.self a.old.now c.told-old h.1 a.p _ _ a.r.at a.r.side h.0 h.2))
+    (h.0, h.1, rw c.to_le_bytes.ensures (premise_fits a.self a.old.now c.told-old h.1 a.p _ _ a.r.place.at a.r.place.side h.0 h.2))
