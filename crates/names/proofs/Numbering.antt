@@ -1,6 +1,6 @@
 -- The name of a formula, and its node where it is a compound.
 -- Assumes nothing.
-use mathlib.Core.Path.{◌≡◌, refl, sym, ◌∙◌}
+use mathlib.Core.Path.{◌≡◌, refl, sym, ap, ◌∙◌}
 use mathlib.Core.List.{List}
 use Prim.Native.Nat.{ℕ, ◌+◌, ◌-◌, ◌≤◌, ◌<◌}
 use native.Mathlib.Omega.{arith}
@@ -9,7 +9,13 @@ use Rattle.calculus.specs.Limits.{LETTERS, CONNECTIVES}
 use Rattle.calculus.specs.Syntax.{Connective, NOT, two, Formula, letter, neg, join, compound, connectives}
 use Rattle.calculus.specs.Bytes.{CONNECTIVE, code, Lettered}
 use Rattle.question.specs.Positions.{formula_at, end_of}
-use Rattle.question.proofs.Parts.{At, a_letter, a_compound, at_position, letter_at, first_at, not_at, TwoAt, two_at}
+use Rattle.question.specs.declared.connective.Binary.{Binary as Joins}
+use Rattle.question.specs.declared.connective.Binary.TheVariants.{And, Or, Implies, Equiv}
+use Rattle.question.specs.declared.connective.Connective.{Connective as Read}
+use Rattle.question.specs.declared.connective.Connective.TheVariants.{Not, Two}
+use Rattle.question.specs.Connectives.{connective_of, command_of}
+use Rattle.question.proofs.Connectives.{binary_range}
+use Rattle.question.proofs.Parts.{letter_at, first_at, not_at, TwoAt, two_at}
 use Rattle.question.proofs.Readers.{connective_range}
 use Rattle.sequent.specs.Names.{node, Node, node_of, Tells, first_of, second_of}
 use Rattle.sequent.proofs.Namings.{node_read, command_small}
@@ -50,9 +56,9 @@ module _ (k : Connective) (n : ℕ) (small : n ≤ CONNECTIVES) (f g : ℕ) (h :
 -- ---- a formula at a position
 
 module _ (q : List ℕ) (at n : ℕ) (T : List ℕ) (h : Numbers q at n T) where
-  pub number_letter : get_or q at 0 ≡ 1 → Numbered q at n T T (record { name = get_or q (at + 1) 0; end = at + 2; next = n })
-  number_letter e =
-      let a = letter_at q at h.well (λ i. omega arith) in
+  pub number_letter : ((k : Read) → get_or q at 0 ≡ command_of k → ⊥) → Numbered q at n T T (record { name = get_or q (at + 1) 0; end = at + 2; next = n })
+  number_letter other =
+      let a = letter_at q at h.well (λ i. omega (arith, other Not, other (Two And), other (Two Or), other (Two Implies), other (Two Equiv))) in
       let l : get_or q (at + 1) 0 < LETTERS = rw a.stands at h.lettered in
       record {
         tells = rw a.stands (refl, l);
@@ -65,13 +71,9 @@ module _ (q : List ℕ) (at n : ℕ) (T : List ℕ) (h : Numbers q at n T) where
         size = refl;
       }
 
-  module _ (u : get_or q at 0 ≡ 1 → ⊥) where
+  module _ (k : Read) (command : get_or q at 0 ≡ command_of k) where
     byte : 2 ≤ get_or q at 0
-    byte = go (at_position q at h.well)
-      where
-        go : At q at → 2 ≤ get_or q at 0
-        go (a_letter a) = absurd (u a.byte)
-        go (a_compound x a) = omega (arith, a.byte, connective_range x.connective)
+    byte = omega (arith, command, connective_range (connective_of k))
 
     -- its first part
     less : connectives (formula_at q (at + 1)) + 1 ≤ connectives (formula_at q at)
@@ -101,9 +103,15 @@ module _ (q : List ℕ) (at n : ℕ) (T : List ℕ) (h : Numbers q at n T) where
       pub not_room : f.next < CONNECTIVES
       not_room = omega (arith, a.few, less, h.fits)
 
-      module _ (e : get_or q at 0 ≡ 2) (w : ℕ) (d : w ≡ node (get_or q at 0) f.name f.name) where
+      module _ (is : k ≡ Not) (w : ℕ) (d : w ≡ node (command_of k) f.name f.name) where
+        e : get_or q at 0 ≡ 2
+        e = rw is at command
+
+        held : w ≡ node (code (CONNECTIVE NOT)) f.name f.name
+        held = rw is at d
+
         pub not_lower : (first_of w < LETTERS + f.next) × (second_of w < LETTERS + f.next)
-        not_lower = parts_lower NOT f.next (omega (arith, not_room)) f.name f.name a.below a.below w (d ∙ rw e)
+        not_lower = parts_lower NOT f.next (omega (arith, not_room)) f.name f.name a.below a.below w held
 
         pub number_not : (P : List ℕ) (r : Named) → Noted w f.end f.next R P r → Numbered q at n T P r
         number_not P r t =
@@ -112,7 +120,7 @@ module _ (q : List ℕ) (at n : ℕ) (T : List ℕ) (h : Numbers q at n T) where
             record {
               tells = rw s.stands (
                 f.name,
-                noted_node NOT f.next (omega (arith, not_room)) f.name f.name a.below a.below w (d ∙ rw e) f.end R P r t,
+                noted_node NOT f.next (omega (arith, not_room)) f.name f.name a.below a.below w held f.end R P r t,
                 tells_kept R P f.next t.kept x f.name a.below a.tells,
               );
               below = t.below;
@@ -125,9 +133,9 @@ module _ (q : List ℕ) (at n : ℕ) (T : List ℕ) (h : Numbers q at n T) where
             }
 
       -- a connective of two
-      module _ (e : get_or q at 0 ≡ 2 → ⊥) where
+      module _ (o : Joins) (is : k ≡ Two o) where
         second : TwoAt q at
-        second = two_at q at h.well byte e
+        second = two_at q at h.well byte (λ e. omega (arith, binary_range o, rw is at command))
 
         count : connectives (formula_at q at) ≡ connectives (formula_at q (at + 1)) + connectives (formula_at q f.end) + 1
         count = rw (a.end, second.stands) (omega arith)
@@ -141,9 +149,12 @@ module _ (q : List ℕ) (at n : ℕ) (T : List ℕ) (h : Numbers q at n T) where
           pub two_room : g.next < CONNECTIVES
           two_room = omega (arith, a.few, b.few, count, h.fits)
 
-          module _ (w : ℕ) (d : w ≡ node (get_or q at 0) f.name g.name) where
+          module _ (w : ℕ) (d : w ≡ node (command_of k) f.name g.name) where
+            held_two : w ≡ node (code (CONNECTIVE (two second.o))) f.name g.name
+            held_two = d ∙ ap (λ (b : ℕ). node b f.name g.name) (sym command ∙ second.byte)
+
             pub two_lower : (first_of w < LETTERS + g.next) × (second_of w < LETTERS + g.next)
-            two_lower = parts_lower (two second.o) g.next (omega (arith, two_room)) f.name g.name (omega (arith, a.below, b.more)) b.below w (d ∙ rw second.byte)
+            two_lower = parts_lower (two second.o) g.next (omega (arith, two_room)) f.name g.name (omega (arith, a.below, b.more)) b.below w held_two
 
             pub number_two : (Q : List ℕ) (r : Named) → Noted w g.end g.next P Q r → Numbered q at n T Q r
             number_two Q r t =
@@ -153,7 +164,7 @@ module _ (q : List ℕ) (at n : ℕ) (T : List ℕ) (h : Numbers q at n T) where
                   tells = rw second.stands (
                     f.name,
                     g.name,
-                    noted_node (two second.o) g.next (omega (arith, two_room)) f.name g.name (omega (arith, a.below, b.more)) b.below w (d ∙ rw second.byte) g.end P Q r t,
+                    noted_node (two second.o) g.next (omega (arith, two_room)) f.name g.name (omega (arith, a.below, b.more)) b.below w held_two g.end P Q r t,
                     tells_kept R Q f.next (λ k i. t.kept k (omega (arith, b.more)) ∙ b.kept k i) x f.name a.below a.tells,
                     tells_kept P Q g.next t.kept y g.name b.below (rw a.end at b.tells),
                   );

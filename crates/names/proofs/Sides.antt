@@ -24,7 +24,7 @@ use Rattle.sequent.specs.View.{view, set_of, sequent_of, letters_of, compounds_o
 use Rattle.sequent.proofs.Premises.{take_drop}
 use Rattle.sequent.proofs.Sets.{members}
 use Rattle.names.specs.declared.Loaded.{Loaded}
-use Rattle.names.specs.Loads.{NamesAll, Loads, Enters, before}
+use Rattle.names.specs.Loads.{NamesAll, none_yet, Loads, Enters, before}
 use Rattle.names.proofs.Entering.{names_split, names_known, names_formulas}
 
 -- ---- the next formula of a side
@@ -124,23 +124,17 @@ module _ (q T₀ old : List ℕ) (start : Loaded) (n : ℕ) (u : Side) (s : Star
 
     pub filled_all : i ≡ n → Loads T items start.places l (before u (question q) ++ on_side u (question q))
         × (take start.places items ≡ take start.places old)
-        × (l.end ≡ start_of u (length (on_side u (question q))) (question q))
+        × (l.end ≡ start.end + bytes_all (on_side u (question q)))
     filled_all e =
         let j : i ≡ length (on_side u (question q)) = e ∙ s.count in
         let p : take i (on_side u (question q)) ≡ on_side u (question q) = ap (λ (k : ℕ). take k (on_side u (question q))) j ∙ take-length (on_side u (question q)) in
-        (rw p at f.loads, f.kept, f.ends ∙ rw j)
+        (rw p at f.loads, f.kept, f.ends ∙ rw (s.begins, p) refl)
 
 -- ---- both sides
 
--- where the right side starts
-pub right_starts : (S : Sequent) (e : ℕ) → e ≡ start_of Left (length S.on_left) S → e + 2 ≡ side_start Right S
-right_starts S e h =
-    let d : start_of Left (length S.on_left) S ≡ 2 + bytes_all S.on_left = ap (λ (xs : List Formula). 2 + bytes_all xs) (take-length S.on_left) in
-    omega arith
-
 -- the left side has come, and the right side is to be filled
 pub between : (T items : List ℕ) (first : ℕ) (l : Loaded) (xs : List Formula) (e : ℕ) → Loads T items first l xs
-    → Loads T items l.places (record { places = l.places; mask = 0; set = 0; end = e; next = l.next }) xs
+    → Loads T items l.places (none_yet l.places e l.next) xs
 between T items first l xs e h =
     let n = slice_empty l.places items in
     record { size = h.size; room = h.room; nodes = h.nodes; few = h.few; count = h.count; names = h.names; mask = rw n refl; set = rw n refl; inside = omega arith }

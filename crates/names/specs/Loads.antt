@@ -64,6 +64,10 @@ NamesAll T n [] (x ∷ xs) = ⊥
 NamesAll T n (d ∷ ds) [] = ⊥
 NamesAll T n (d ∷ ds) (x ∷ xs) = Tells T d x × (d < LETTERS + n) × NamesAll T n ds xs
 
+-- none yet of a side whose formulas start at a position, where so many places and nodes are in use
+abbrev pub none_yet : ℕ → ℕ → ℕ → Loaded
+none_yet places start next = record { places = places; mask = 0; set = 0; end = start; next = next }
+
 -- the places so far name these formulas; those from `first` on are of the side that is being filled
 pub record Loads (T items : List ℕ) (first : ℕ) (l : Loaded) (xs : List Formula) : Type 0 where
   pub size : length T ≡ CONNECTIVES

@@ -2,17 +2,18 @@
 // formulas have one name.
 #![tactic(auto)]
 
-ghost use Rattle.std.specs.Prelude.{◌≡◌, List, [], ◌∷◌, ◌++◌, ℕ, ◌+◌, ◌≤◌, ◌<◌, length, take, get_or};
+ghost use Rattle.std.specs.Prelude.{◌≡◌, List, [], ◌∷◌, ◌++◌, ℕ, ◌+◌, ◌≤◌, ◌<◌, length, take, get_or, replicate};
 ghost use Rattle.calculus.specs.Limits;
 ghost use Rattle.calculus.specs.Limits.{CONNECTIVES};
 ghost use Rattle.calculus.specs.Syntax.{Formula, on_side};
-ghost use Rattle.calculus.specs.Bytes.{question, side_start, start_of};
+ghost use Rattle.calculus.specs.Bytes.{question, bytes_all};
 ghost use Rattle.calculus.specs.Reading.{accepted, reading};
+ghost use Rattle.question.specs.Connectives.{command_of};
 ghost use Rattle.question.specs.Positions.{formula_at, end_of};
 ghost use Rattle.sequent.specs.Names.{node, first_of, second_of};
 ghost use Rattle.sequent.specs.View.{sequent_of, Good};
 ghost use Rattle.sequent.specs.Compounds.{Stands};
-ghost use Rattle.names.specs.Loads.{Nodes, Noted, Numbers, Numbered, Loads, Enters, before};
+ghost use Rattle.names.specs.Loads.{Nodes, Noted, Numbers, Numbered, none_yet, Loads, Enters, before};
 
 use question::{ALL_CONNECTIVES, Connective, Formulas, LETTERS, Question};
 use sequent::{Half, Names, ROOM, Running};
@@ -39,19 +40,24 @@ pub struct Loaded {
 // Room for the nodes of a question's compounds and the names of its formulas.
 #[derive(Drop)]
 pub struct Lists {
-    nodes: [u32; ALL_CONNECTIVES],
-    items: [u8; ROOM],
+    pub nodes: [u32; ALL_CONNECTIVES],
+    pub items: [u8; ROOM],
 }
 
 impl Lists {
-    pub fn new() -> Lists {
+    pub fn new() -> Lists
+        ensures { (result.nodes ≡ replicate CONNECTIVES 0) × (result.items ≡ replicate Limits.ROOM 0) }
+    {
         Lists {
             nodes: [0; ALL_CONNECTIVES],
             items: [0; ROOM],
         }
     }
 
-    pub fn names(&self) -> Names<'_> {
+    // The same, lent.
+    pub fn names(&self) -> Names<'_>
+        ensures { (result.nodes.now ≡ self.now.nodes) × (result.items.now ≡ self.now.items) }
+    {
         Names {
             nodes: &self.nodes,
             items: &self.items,
@@ -61,7 +67,7 @@ impl Lists {
 
 // The node of a compound in one number, so that the search among nodes compares one word each.
 fn node(k: Connective, f: u8, g: u8) -> u32
-    ensures { result ≡ node b f g }
+    ensures { result ≡ node (command_of k) f g }
 {
     u32::from_le_bytes([u8::from(k), f, g, 0])
 }
@@ -114,7 +120,7 @@ fn number(q: &[u8], nodes: &mut [u32; ALL_CONNECTIVES], at: usize, n: usize) -> 
     }
 }
 
-// A compound: its parts, then itself.
+// A compound with the connective k: its parts, then itself.
 #[cycle(number_number_parts)]
 fn number_parts(
     q: &[u8],
@@ -123,7 +129,7 @@ fn number_parts(
     k: Connective,
     n: usize,
 ) -> Named
-    requires { Numbers q.now at n nodes.old × (get_or q.now at 0 ≡ 1 → ⊥) }
+    requires { Numbers q.now at n nodes.old × (get_or q.now at 0 ≡ command_of k) }
     ensures { Numbered q.now at n nodes.old nodes.new result }
 {
     let f = number(q, nodes, at + 1, n);
@@ -165,17 +171,12 @@ fn load(
     places: usize,
     next: usize,
 ) -> Loaded
-    requires { (start.end ≡ side_start side (question q.bytes.now))
-        × Loads nodes.old items.old start.places start (before side (question q.bytes.now)) }
-    ensures { Loads
-        nodes.new
-        items.new
-        start.places
-        result
-        (before side (question q.entry.bytes.now) ++ on_side side (question q.entry.bytes.now))
-        × (take start.places items.new ≡ take start.places items.old)
-        × (result.end ≡ start_of side (length (on_side side (question q.entry.bytes.now))) (question q.entry.bytes.now)) }
+    requires { Loads nodes.old items.old places (none_yet places xs.start next) (before xs.side (question xs.q.bytes.now)) }
+    ensures { let S = question xs.entry.q.bytes.now in let ys = on_side xs.entry.side S in Loads nodes.new items.new places result (before xs.entry.side S ++ ys)
+        × (take places items.new ≡ take places items.old)
+        × (result.end ≡ xs.entry.start + bytes_all ys) }
 {
+    let n = xs.count();
     let mut l = Loaded {
         places,
         mask: 0,
@@ -183,7 +184,7 @@ fn load(
         end: xs.start,
         next,
     };
-    for _i in 0..xs.count() {
+    for _i in 0..n {
         l = enter(xs.q.bytes, nodes, items, l);
     }
     l
@@ -191,8 +192,8 @@ fn load(
 
 // The running sequent of an accepted question, its nodes and its places.
 pub fn root(q: Question<'_>, lists: &mut Lists) -> Running
-    ensures { Good nodes.new items.new result
-        × (sequent_of nodes.new items.new result ≡ question q.entry.bytes.now) }
+    ensures { Good lists.new.nodes lists.new.items result
+        × (sequent_of lists.new.nodes lists.new.items result ≡ question q.entry.bytes.now) }
 {
     let nodes = &mut lists.nodes;
     let items = &mut lists.items;

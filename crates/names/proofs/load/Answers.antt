@@ -1,29 +1,34 @@
 use Rattle.calculus.specs.Bytes.{question}
-use Rattle.names.proofs.Sides.{up_to, Starts, filled_enters, filled_next}
+use Rattle.names.specs.Loads.{none_yet}
+use Rattle.names.proofs.Sides.{up_to, Starts, filled_enters, filled_next, filled_all}
 use Rattle.names.proofs.load.Goals as goal
 
 pub enter-l-requires : goal.enter-l-requires
 enter-l-requires c =
     let a = c.args in
+    let q = a.xs.q in
     let n = c.count-n in
     let l = c.loop-i in
-    let b : Starts a.q.bytes.now a.nodes.now a.items.now a.start n.result a.side
-    = record { read = a.q.accepted; count = n.ensures; begins = c.requires.0; loads = c.requires.1 } in
-    let f = l.invariant a.side b in (
-      a.start.places,
-      up_to a.side l._i (question a.q.bytes.now),
+    let start = none_yet a.places a.xs.start a.next in
+    let b : Starts q.bytes.now a.nodes.now a.items.now start n.result a.xs.side
+    = record { read = q.accepted; count = n.ensures; begins = a.xs.starts; loads = c.requires } in
+    let f = l.invariant a.xs.side b in (
+      a.places,
+      up_to a.xs.side l._i (question q.bytes.now),
       f.loads,
-      filled_enters a.q.bytes.now a.nodes.now a.items.now a.start n.result a.side b l.nodes l.items l.l l._i f c.loop-i-test.true,
+      filled_enters q.bytes.now a.nodes.now a.items.now start n.result a.xs.side b l.nodes l.items l.l l._i f c.loop-i-test.true,
     )
 
 pub loop-i-preserved : goal.loop-i-preserved
 loop-i-preserved c =
     let a = c.args in
+    let q = a.xs.q.bytes.now in
     let n = c.count-n.result in
     let l = c.loop-i in
+    let start = none_yet a.places a.xs.start a.next in
     let h = c.loop-i-test.true in
     let e = c.enter-l in
     λ u s.
     let f = l.invariant u s in
-    let k = e.ensures.0 a.start.places (up_to u l._i (question a.q.bytes.now)) f.loads (filled_enters a.q.bytes.now a.nodes.now a.items.now a.start n u s l.nodes l.items l.l l._i f h) in
-    filled_next a.q.bytes.now a.nodes.now a.items.now a.start n u s l.nodes l.items l.l l._i f h e.new.nodes e.new.items e.result k e.ensures.1 e.ensures.2
+    let k = e.ensures.0 a.places (up_to u l._i (question q)) f.loads (filled_enters q a.nodes.now a.items.now start n u s l.nodes l.items l.l l._i f h) in
+    filled_next q a.nodes.now a.items.now start n u s l.nodes l.items l.l l._i f h e.new.nodes e.new.items e.result k e.ensures.1 e.ensures.2

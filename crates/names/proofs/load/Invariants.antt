@@ -1,8 +1,10 @@
 -- The loop's invariant: the formulas up to place i have come.
 use Rattle.calculus.specs.declared.Side.{Side}
+use Rattle.names.specs.Loads.{none_yet}
 use Rattle.names.proofs.Sides.{Starts, Filled}
 use Rattle.names.proofs.load.Given as goal
 
 abbrev pub invariant-loop-i : goal.invariant-loop-i
 invariant-loop-i l =
-    (u : Side) → Starts l.q.bytes.now l.initial.nodes l.initial.items l.initial.l l.n u → Filled l.q.bytes.now l.initial.items l.initial.l u l.nodes l.items l.l l._i
+    let start = none_yet l.places l.xs.start l.next in
+    (u : Side) → Starts l.xs.q.bytes.now l.initial.nodes l.initial.items start l.n u → Filled l.xs.q.bytes.now l.initial.items start u l.nodes l.items l.l l._i

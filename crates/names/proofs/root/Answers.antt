@@ -1,19 +1,13 @@
-use Rattle.std.proofs.Common.{arith}
-use Rattle.calculus.specs.declared.Side.TheVariants.{Right}
 use Rattle.calculus.specs.Bytes.{question}
 use Rattle.calculus.proofs.Readings.{accepted_question}
-use Rattle.question.proofs.Questions.{side_inside}
-use Rattle.names.proofs.Sides.{right_starts, all_loaded}
+use Rattle.names.proofs.Sides.{all_loaded}
 use Rattle.names.proofs.root.Goals as goal
-
-pub overflow_add-between : goal.overflow_add-between
-overflow_add-between c =
-    let l = c.load-left in
-    omega (arith, right_starts (question c.args.q.bytes.now) l.result.end l.ensures.2, side_inside c.args.q.bytes.now c.args.q.accepted Right)
 
 pub returns : goal.returns
 returns c =
     let q = c.args.q.bytes.now in
-    let l = c.load-left in
-    let r = c.load-right in
-    all_loaded (question q) (accepted_question q c.args.q.accepted).0 l.new.nodes l.new.items l.result l.ensures.0 r.new.nodes r.new.items r.result r.ensures.0 r.ensures.1
+    let l = c.load-l in
+    let r = c.load-r in
+    let lefts = rw (c.left.ensures.0, c.left.ensures.1) at l.ensures in
+    let both = rw (c.right.ensures.0, c.right.ensures.1) at r.ensures in
+    all_loaded (question q) (accepted_question q c.args.q.accepted).0 l.new.nodes l.new.items l.result lefts.0 r.new.nodes r.new.items r.result both.0 both.1
