@@ -24,7 +24,7 @@ use Rattle.sequent.specs.Compounds.{rule_for, premises_at, premise_by, Makes}
 use Rattle.sequent.specs.declared.Running.{Running}
 use Rattle.sequent.specs.View.{view, sequent_of}
 use Rattle.prover.specs.declared.Finding.{Finding}
-use Rattle.prover.specs.declared.Reduced.{Reduced}
+use Rattle.sequent.specs.declared.Counted.{Counted}
 use Rattle.prover.specs.Inner.{inner_of, Stepped, First}
 use Rattle.prover.specs.Runs.{after, made, ended, Ran, Comes}
 
@@ -110,33 +110,33 @@ module _ {T items : List ℕ} {s : Running} {r : Reduction} {rule : List Placing
     abbrev rest : List Sequent
     rest = map (premise_by T items s r) (drop (j + 1) rule)
 
-    module _ {u : Reduced} (e : Ran o.unspent (premise_by T items s r (get_or rule j nowhere)) u) where
-      opened : pass outcome o.unspent (map (premise_by T items s r) (drop j rule)) ≡ and_then u.outcome.kind u.outcome (λ l. pass outcome l rest)
+    module _ {u : Counted Outcome} (e : Ran o.unspent (premise_by T items s r (get_or rule j nowhere)) u) where
+      opened : pass outcome o.unspent (map (premise_by T items s r) (drop j rule)) ≡ and_then u.value.kind u.value (λ l. pass outcome l rest)
       opened = ap (λ (ps : List Placing). pass outcome o.unspent (map (premise_by T items s r) ps)) (next rule j h) ∙ ap (λ (v : Outcome). and_then v.kind v (λ l. pass outcome l rest)) (sym e.outcome)
 
-      made_opened : made o.unspent (map (premise_by T items s r) (drop j rule)) ≡ premise_at j ∷ after u.outcome.kind (made u.outcome.unspent rest)
+      made_opened : made o.unspent (map (premise_by T items s r) (drop j rule)) ≡ premise_at j ∷ after u.value.kind (made u.value.unspent rest)
       made_opened =
           ap (λ (ps : List Placing). made o.unspent (map (premise_by T items s r) ps)) (next rule j h)
           ∙ ap (λ (v : Outcome). premise_at j ∷ after v.kind (made v.unspent rest)) (sym e.outcome)
 
-      closings_fit : u.outcome.closings ≤ 2 ^ CONNECTIVES
+      closings_fit : u.value.closings ≤ 2 ^ CONNECTIVES
       closings_fit = omega (arith, ap (λ (v : Outcome). v.closings) e.outcome, closings_small o.unspent (premise_at j) (omega (arith, ahead_makes.fewer, a.inside)))
 
-      pairings_fit : u.outcome.pairings ≤ u.outcome.closings
+      pairings_fit : u.value.pairings ≤ u.value.closings
       pairings_fit = subst (λ (v : Outcome). v.pairings ≤ v.closings) (sym e.outcome) (pairings_small o.unspent (premise_at j))
 
       -- what is counted fits
-      pub ahead_fits : (o.closings + u.outcome.closings ≤ 2 ^ CONNECTIVES * 2) × (o.pairings + u.outcome.pairings ≤ 2 ^ CONNECTIVES * 2) × (n + u.stores ≤ ROOM * 2)
+      pub ahead_fits : (o.closings + u.value.closings ≤ 2 ^ CONNECTIVES * 2) × (o.pairings + u.value.pairings ≤ 2 ^ CONNECTIVES * 2) × (n + u.stores ≤ ROOM * 2)
       ahead_fits =
           let two = few T items s a.reduction.good r a.reduction.can rule a.rows in
           let k = closings_fit in
           let m = pairings_fit in
           (omega (arith, a.few), omega (arith, a.few, a.among), omega (arith, a.small, e.stores, ahead_makes.small))
 
-      pub ahead_goes : u.outcome.kind ≡ Theorem → Ahead T items s r rule b (j + 1) (and_so o u.outcome) (n + u.stores)
+      pub ahead_goes : u.value.kind ≡ Theorem → Ahead T items s r rule b (j + 1) (and_so o u.value) (n + u.stores)
       ahead_goes t =
-          let v = pass outcome u.outcome.unspent rest in
-          let w : made o.unspent (map (premise_by T items s r) (drop j rule)) ≡ premise_at j ∷ made u.outcome.unspent rest = rw t at made_opened in
+          let v = pass outcome u.value.unspent rest in
+          let w : made o.unspent (map (premise_by T items s r) (drop j rule)) ≡ premise_at j ∷ made u.value.unspent rest = rw t at made_opened in
           let k = closings_fit in
           let m = pairings_fit in
           record {
@@ -144,16 +144,16 @@ module _ {T items : List ℕ} {s : Running} {r : Reduction} {rule : List Placing
             rows = a.rows;
             inside = a.inside;
             closed = t;
-            outcome = a.outcome ∙ ap (and_so o) (rw t at opened) ∙ (λ i. record { kind = v.kind; unspent = v.unspent; closings = sym (add_assoc o.closings u.outcome.closings v.closings) i; pairings = sym (add_assoc o.pairings u.outcome.pairings v.pairings) i });
+            outcome = a.outcome ∙ ap (and_so o) (rw t at opened) ∙ (λ i. record { kind = v.kind; unspent = v.unspent; closings = sym (add_assoc o.closings u.value.closings v.closings) i; pairings = sym (add_assoc o.pairings u.value.pairings v.pairings) i });
             stores = omega (arith, a.stores, ap (fold SUM size) w, e.stores);
             few = omega (arith, a.few);
             among = omega (arith, a.among);
             small = omega (arith, a.small, e.stores, ahead_makes.small);
           }
 
-      pub ahead_stops : (u.outcome.kind ≡ Theorem → ⊥) → Comes b (premises_at T items s r) (record { outcome = and_so o u.outcome; stores = n + u.stores })
+      pub ahead_stops : (u.value.kind ≡ Theorem → ⊥) → Comes b (premises_at T items s r) (record { value = and_so o u.value; stores = n + u.stores })
       ahead_stops t =
-          let k = stops u.outcome.kind t u.outcome (λ l. pass outcome l rest) (made u.outcome.unspent rest) in
+          let k = stops u.value.kind t u.value (λ l. pass outcome l rest) (made u.value.unspent rest) in
           let w : made o.unspent (map (premise_by T items s r) (drop j rule)) ≡ premise_at j ∷ [] = made_opened ∙ ap (λ (Ps : List Sequent). premise_at j ∷ Ps) k.1 in
           rw (← ended_premises)
           (record {
@@ -161,7 +161,7 @@ module _ {T items : List ℕ} {s : Running} {r : Reduction} {rule : List Placing
             stores = omega (arith, a.stores, ap (fold SUM size) w, e.stores);
           })
 
-  pub ahead_ends : length rule ≤ j → Comes b (premises_at T items s r) (record { outcome = o; stores = n })
+  pub ahead_ends : length rule ≤ j → Comes b (premises_at T items s r) (record { value = o; stores = n })
   ahead_ends h =
       let e = next_ends rule j h in
       rw (← ended_premises)

@@ -75,7 +75,7 @@ module _ {T items : List ℕ} {s : Running} (good : Good T items s) (t : Side) (
           go (suc l) z = refl
 
       pub due_reduce : is_due r.place.side r.place.at (compound_at T r.place.side r.place.at (view s items)) ≡ afford left (due (sequent_of T items s) t i (compound_at T t i (view s items)))
-      due_reduce = ap (λ (u : Reduction). is_due u.side u.at (compound_at T u.side u.at (view s items))) e ∙ due_now
+      due_reduce = ap (λ (u : Reduction). is_due u.place.side u.place.at (compound_at T u.place.side u.place.at (view s items))) e ∙ due_now
 
       pub due_ready : ReadyAt T items s left r
       due_ready =

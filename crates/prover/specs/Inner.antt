@@ -13,7 +13,7 @@ use Rattle.prover.specs.declared.Finding.TheVariants.{Closed, Paired, Open, Full
 -- document 01's outcome of the tests, for each answer, where these are the names
 abbrev pub inner_of : List ℕ → Seq ℕ → Finding → Inner
 inner_of T N (Closed k) = is_closed (lettered k)
-inner_of T N (Paired i j) = is_closed (paired i j)
+inner_of T N (Paired p) = is_closed (paired p.left p.right)
 inner_of T N (Open σ) = is_open σ
 inner_of T N Full = is_full
 inner_of T N Spent = is_spent
@@ -28,7 +28,7 @@ pub record ReadyAt (T items : List ℕ) (s : Running) (left : ℕ) (r : Reductio
 -- that, or places of a running sequent
 abbrev pub Ready : List ℕ → List ℕ → Running → ℕ → Finding → Type 0
 Ready T items s left (Closed k) = Unit {0}
-Ready T items s left (Paired i j) = (i < ROOM) × (j < ROOM)
+Ready T items s left (Paired p) = (p.left < ROOM) × (p.right < ROOM)
 Ready T items s left (Open σ) = Unit {0}
 Ready T items s left Full = Unit {0}
 Ready T items s left Spent = Unit {0}

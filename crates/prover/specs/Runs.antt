@@ -6,7 +6,7 @@ use Rattle.calculus.specs.declared.Outcome.{Outcome}
 use Rattle.calculus.specs.Fold.{fold, SUM}
 use Rattle.calculus.specs.Syntax.{Sequent, size}
 use Rattle.calculus.specs.Tree.{outcome, pass}
-use Rattle.prover.specs.declared.Reduced.{Reduced}
+use Rattle.sequent.specs.declared.Counted.{Counted}
 
 -- after a premise of this kind the run goes on, or has ended
 abbrev pub after : Kind → List Sequent → List Sequent
@@ -25,11 +25,11 @@ abbrev pub ended : Kind → ℕ → ℕ → ℕ → Outcome
 ended k b n m = record { kind = k; unspent = b; closings = n; pairings = m }
 
 -- what a premise comes to; the stores made for it are its formulas
-pub record Ran (b : ℕ) (P : Sequent) (r : Reduced) : Type 0 where
-  pub outcome : r.outcome ≡ outcome b P
+pub record Ran (b : ℕ) (P : Sequent) (r : Counted Outcome) : Type 0 where
+  pub outcome : r.value ≡ outcome b P
   pub stores : r.stores ≡ size P
 
 -- what a reduction with these premises comes to; the stores are the formulas of the premises made, together
-pub record Comes (b : ℕ) (Ps : List Sequent) (r : Reduced) : Type 0 where
-  pub outcome : r.outcome ≡ pass outcome b Ps
+pub record Comes (b : ℕ) (Ps : List Sequent) (r : Counted Outcome) : Type 0 where
+  pub outcome : r.value ≡ pass outcome b Ps
   pub stores : r.stores ≡ fold SUM size (made b Ps)

@@ -55,8 +55,8 @@ run_premise-premise-made-requires t c =
     let a = c.args in
     premise_asks a.t.nodes.now a.t.items.now a.s a.r a.p c.requires.0
 
-pub run_premise-run-outcome-requires : goal.run_premise-run-outcome-requires
-run_premise-run-outcome-requires t c =
+pub run_premise-run-requires : goal.run_premise-run-requires
+run_premise-run-requires t c =
     let h = c.requires in
     let w = made h.0 h.1 c.premise-made.ensures in
     let e = ap connectives_of w.is in
@@ -65,4 +65,4 @@ run_premise-run-outcome-requires t c =
 pub run_premise-returns : goal.run_premise-returns
 run_premise-returns t c =
     let w = made c.requires.0 c.requires.1 c.premise-made.ensures in
-    record { outcome = c.run-outcome.ensures ∙ ap (outcome c.args.left) w.is; stores = w.stores }
+    record { outcome = c.run.ensures ∙ ap (outcome c.args.left) w.is; stores = w.stores }
