@@ -33,7 +33,8 @@ use Rattle.sequent.specs.declared.Reduction.{Reduction}
 use Rattle.prover.specs.declared.Finding.{Finding}
 use Rattle.prover.specs.declared.Finding.TheVariants.{Closed, Paired, Open, Full as FullFound, Spent as SpentFound, Reduce}
 use Rattle.prover.specs.Inner.{inner_of, Stepped, First}
-use Rattle.writer.specs.declared.Emitted.{Emitted}
+use Rattle.calculus.specs.declared.Pair.{Pair}
+use Rattle.sequent.specs.declared.Counted.{Counted}
 use Rattle.writer.specs.Emits.{Provable, derivations, Emits}
 
 -- ---- storing bytes
@@ -92,12 +93,12 @@ theorem_goes S h = go (step S) (ap (λ (t : Tree). t.end) (sym (tree_grows S)) �
 
 -- A theorem's step is closed or reduced.
 pub no_other : {T items : List ℕ} {s : Running} {f : Finding} → Stepped T items s 1 f → Provable (sequent_of T items s)
-    → ((k : ℕ) → f ≡ Closed k → ⊥) → ((i j : ℕ) → f ≡ Paired i j → ⊥) → ((r : Reduction) → f ≡ Reduce r → ⊥) → ⊥
+    → ((k : ℕ) → f ≡ Closed k → ⊥) → ((p : Pair ℕ) → f ≡ Paired p → ⊥) → ((r : Reduction) → f ≡ Reduce r → ⊥) → ⊥
 no_other {T} {items} {s} {f} w h = go f (subst Goes (sym w.inner) (theorem_goes (sequent_of T items s) h))
   where
-    go : (f : Finding) → Goes (inner_of T (view s items) f) → ((k : ℕ) → f ≡ Closed k → ⊥) → ((i j : ℕ) → f ≡ Paired i j → ⊥) → ((r : Reduction) → f ≡ Reduce r → ⊥) → ⊥
+    go : (f : Finding) → Goes (inner_of T (view s items) f) → ((k : ℕ) → f ≡ Closed k → ⊥) → ((p : Pair ℕ) → f ≡ Paired p → ⊥) → ((r : Reduction) → f ≡ Reduce r → ⊥) → ⊥
     go (Closed k) g p q u = p k refl
-    go (Paired i j) g p q u = q i j refl
+    go (Paired x) g p q u = q x refl
     go (Open σ) g p q u = g
     go FullFound g p q u = g
     go SpentFound g p q u = g
@@ -142,9 +143,9 @@ module _ {T items : List ℕ} {s : Running} {r : Reduction} (w : Stepped T items
 
   -- the command is stored, and the premises' derivations behind it
   pub due_written : (out : List ℕ) → length (derivation (sequent_of T items s)) ≤ length out → (b : ℕ) → b ≡ order_code (REDUCE r.place.side x.connective)
-      → (n : ℕ) → n ≡ 2 → (put : List ℕ) → put ≡ sets out 0 (b ∷ r.place.at ∷ []) → {count : ℕ} {last : List ℕ} {e : Emitted}
+      → (n : ℕ) → n ≡ 2 → (put : List ℕ) → put ≡ sets out 0 (b ∷ r.place.at ∷ []) → {count : ℕ} {last : List ℕ} {e : Counted ℕ}
       → Emits (derivations (premises_at T items s r)) count (take (length put - n) (drop n put)) last e
-      → (n + e.length ≡ length (derivation (sequent_of T items s))) × (take n put ++ (last ++ drop (length put - n) (drop n put)) ≡ sets out 0 (derivation (sequent_of T items s)))
+      → (n + e.value ≡ length (derivation (sequent_of T items s))) × (take n put ++ (last ++ drop (length put - n) (drop n put)) ≡ sets out 0 (derivation (sequent_of T items s)))
   due_written out room b command n two put stored {count} {last} {e} u =
       let ds = derivations (premises_at T items s r) in
       let fits : n + length ds ≤ length put = omega (arith, due_long, ap length stored, length-sets out 0 (b ∷ r.place.at ∷ [])) in (
@@ -206,14 +207,14 @@ module _ {T items : List ℕ} {s : Running} {r : Reduction} {rule : List Placing
       part_long new bytes (length (derivation next_premise)) ahead_within,
     )
 
-    module _ {e : Emitted} {last : List ℕ} (w : Emits (derivation next_premise) (size next_premise) (take (length new - bytes) (drop bytes new)) last e) where
+    module _ {e : Counted ℕ} {last : List ℕ} (w : Emits (derivation next_premise) (size next_premise) (take (length new - bytes) (drop bytes new)) last e) where
       -- what is counted fits
-      pub ahead_fits : (bytes + e.length ≤ length old) × (n + e.stores ≤ ROOM * 2)
+      pub ahead_fits : (bytes + e.value ≤ length old) × (n + e.stores ≤ ROOM * 2)
       ahead_fits =
           let k = few T items s a.reduction.good r a.reduction.can rule a.rows in
           (omega (arith, ahead_within, w.long, a.long), omega (arith, w.stores, ahead_next.0.small, a.sum.small))
 
-      pub ahead_goes : Ahead T items s r rule old (j + 1) (bytes + e.length) (n + e.stores) (take bytes new ++ (last ++ drop (length new - bytes) (drop bytes new)))
+      pub ahead_goes : Ahead T items s r rule old (j + 1) (bytes + e.value) (n + e.stores) (take bytes new ++ (last ++ drop (length new - bytes) (drop bytes new)))
       ahead_goes =
           let d = derivation next_premise in
           let v = part_sets new last bytes d ahead_within w.written in
@@ -229,7 +230,7 @@ module _ {T items : List ℕ} {s : Running} {r : Reduction} {rule : List Placing
             long = ap length v ∙ length-sets new bytes d ∙ a.long;
           }
 
-  pub ahead_ends : length rule ≤ j → Emits (derivations (premises_at T items s r)) (fold SUM size (premises_at T items s r)) old new (record { length = bytes; stores = n })
+  pub ahead_ends : length rule ≤ j → Emits (derivations (premises_at T items s r)) (fold SUM size (premises_at T items s r)) old new (record { value = bytes; stores = n })
   ahead_ends h =
       let e = next_ends rule j h in
       rw (← premises_are)

@@ -5,7 +5,7 @@ use Rattle.calculus.specs.declared.Kind.TheVariants.{Theorem}
 use Rattle.calculus.specs.Syntax.{Sequent}
 use Rattle.calculus.specs.Derivation.{derivation}
 use Rattle.calculus.specs.Tree.{tree}
-use Rattle.writer.specs.declared.Emitted.{Emitted}
+use Rattle.sequent.specs.declared.Counted.{Counted}
 
 -- its tree ends in a theorem
 abbrev pub Provable : Sequent → Type 0
@@ -17,7 +17,7 @@ derivations [] = []
 derivations (P ∷ Ps) = derivation P ++ derivations Ps
 
 -- these bytes at the start of what is lent, and so many stores made for premises
-pub record Emits (bytes : List ℕ) (count : ℕ) (old new : List ℕ) (e : Emitted) : Type 0 where
-  pub long : e.length ≡ length bytes
+pub record Emits (bytes : List ℕ) (count : ℕ) (old new : List ℕ) (e : Counted ℕ) : Type 0 where
+  pub long : e.value ≡ length bytes
   pub written : new ≡ sets old 0 bytes
   pub stores : e.stores ≡ count

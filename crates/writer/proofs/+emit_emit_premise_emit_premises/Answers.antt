@@ -68,8 +68,7 @@ emit-returns-in-Reduce t c =
     let w = c.in-Reduce.ensures in
     let p = c.put-n in
     let k = one_command c.connective.result _ (c.connective.ensures ∙ command_made a.t.nodes.now a.t.items.now a.s h.0 r w.ready.can) in
-    let command = c.command_of.ensures ∙ ap (λ (l : Connective). order_code (REDUCE r.place.side l)) k in
-    due_written w h.2 a.out.now h.3 _ command p.result p.ensures.0 p.new.out p.ensures.1 c.emit_premises.ensures
+    due_written w h.2 a.out.now h.3 _ (ap (λ (l : Connective). order_code (REDUCE r.place.side l)) k) p.result p.ensures.0 p.new.out p.ensures.1 c.emit_premises.ensures
 
 pub emit-unreachable-requires : goal.emit-unreachable-requires
 emit-unreachable-requires t c =
@@ -83,8 +82,8 @@ emit_premise-premise-made-requires t c =
     let a = c.args in
     premise_asks a.t.nodes.now a.t.items.now a.s a.r a.p c.requires.0
 
-pub emit_premise-emit-length-requires : goal.emit_premise-emit-length-requires
-emit_premise-emit-length-requires t c =
+pub emit_premise-emit-requires : goal.emit_premise-emit-requires
+emit_premise-emit-requires t c =
     let h = c.requires in
     let w = made h.0 h.1 c.premise-made.ensures in (
       omega (arith, c.decreases, ap connectives_of w.is, h.0.fewer),
@@ -99,7 +98,7 @@ emit_premise-emit-length-requires t c =
 pub emit_premise-returns : goal.emit_premise-returns
 emit_premise-returns t c =
     let w = made c.requires.0 c.requires.1 c.premise-made.ensures in
-    let e = c.emit-length.ensures in
+    let e = c.emit.ensures in
     record {
       long = e.0 ∙ ap (λ (P : Sequent). length (derivation P)) w.is;
       written = e.1 ∙ ap (λ (P : Sequent). sets c.args.out.now 0 (derivation P)) w.is;

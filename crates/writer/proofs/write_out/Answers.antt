@@ -31,7 +31,8 @@ pub emit-requires : goal.emit-requires
 emit-requires c =
     let a = c.args in
     let r = c.root-s.ensures in
-    let long = needed (question a.q.bytes.now) a.v a.pairings c.requires in (
+    let long = needed (question a.q.bytes.now) a.v a.pairings c.requires in
+    rw (c.names.ensures.0, c.names.ensures.1) (
       r.0,
       record { inside = omega arith; letters = refl },
       ap (λ (P : Sequent). (tree P).end) r.1 ∙ c.requires.proved,
@@ -41,6 +42,6 @@ emit-requires c =
 pub returns : goal.returns
 returns c =
     let a = c.args in
-    let all = c.emit.ensures.1 ∙ ap (λ (P : Sequent). sets a.buffer.now 0 (derivation P)) c.root-s.ensures.1 in
+    let all = rw (c.names.ensures.0, c.names.ensures.1) at c.emit.ensures.1 ∙ ap (λ (P : Sequent). sets a.buffer.now 0 (derivation P)) c.root-s.ensures.1 in
     let left = c.if-buffer-length.false in
     space (question a.q.bytes.now) a.v a.pairings c.requires a.buffer.now _ _ refl (omega (arith, left)) all
