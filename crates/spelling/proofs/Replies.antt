@@ -14,7 +14,7 @@ use Rattle.std.proofs.lemmas.List.{take_at, drop_at, take_all, drop_all}
 use Rattle.calculus.specs.declared.Side.{Side}
 use Rattle.calculus.specs.declared.Side.TheVariants.{Left, Right}
 use Rattle.calculus.specs.Limits.{LIMITS, LONGEST, NO_SPACE}
-use Rattle.calculus.specs.Syntax.{Formula, Sequent}
+use Rattle.calculus.specs.Syntax.{Formula, Sequent, on_side}
 use Rattle.calculus.specs.Bytes.{encode, encode_side, bytes_all, question}
 use Rattle.calculus.specs.Reading.{accepted, reading}
 use Rattle.calculus.specs.Truth.{truth, Valid}
@@ -24,7 +24,7 @@ use Rattle.calculus.proofs.Readings.{exactly_under}
 use Rattle.calculus.proofs.Buffers.{no_room, room}
 use Rattle.calculus.proofs.Standard.{standard_ascends, standard_sets, standard_truth, standard_valid, spelling_question, spelling_itself, spelling_alike, spelling_accepted}
 use Rattle.question.specs.declared.Question.{Question}
-use Rattle.question.proofs.Questions.{side_inside}
+use Rattle.question.specs.declared.Formulas.{Formulas}
 use Rattle.spelling.specs.Sides.{side_bytes}
 use Rattle.spelling.specs.declared.NotSpelled.{NotSpelled}
 use Rattle.spelling.specs.declared.NotSpelled.TheVariants.{NoSpace}
@@ -77,18 +77,17 @@ pub record Entered (q : List ℕ) (ls rs : List (Bor (List ℕ))) : Type 0 where
   pub lefts : map (λ f. f.now) ls ≡ map encode (arranged (question q).on_left)
   pub rights : map (λ f. f.now) rs ≡ map encode (arranged (question q).on_right)
 
-pub entered : (b : Question) (q : List ℕ) → b.bytes.now ≡ q → (ls rs : List (Bor (List ℕ))) {l r : List (List ℕ)} → map (λ f. f.now) ls ≡ l → l ≡ map encode (arranged (question b.bytes.now).on_left)
-    → map (λ f. f.now) rs ≡ r → r ≡ map encode (arranged (question b.bytes.now).on_right)
+pub entered : (b : Question) (q : List ℕ) → b.bytes.now ≡ q → (xs ys : Formulas) → (xs.q.bytes ≡ b.bytes) × (xs.side ≡ Left) → (ys.q.bytes ≡ b.bytes) × (ys.side ≡ Right)
+    → (ls rs : List (Bor (List ℕ))) {l r : List (List ℕ)}
+    → map (λ f. f.now) ls ≡ l → l ≡ map encode (arranged (on_side xs.side (question xs.q.bytes.now)))
+    → map (λ f. f.now) rs ≡ r → r ≡ map encode (arranged (on_side ys.side (question ys.q.bytes.now)))
     → Entered q ls rs
-entered b q e ls rs l m r n =
+entered b q e xs ys i j ls rs l m r n =
     record {
       accept = subst (λ (p : List ℕ). reading p ≡ accepted) e b.accepted;
-      lefts = l ∙ (m ∙ ap (λ (p : List ℕ). map encode (arranged (question p).on_left)) e);
-      rights = r ∙ (n ∙ ap (λ (p : List ℕ). map encode (arranged (question p).on_right)) e);
+      lefts = l ∙ (rw (i.0, i.1, e) at m);
+      rights = r ∙ (rw (j.0, j.1, e) at n);
     }
-
-pub left_small : (q : List ℕ) → reading q ≡ accepted → 4 + bytes_all (question q).on_left ≤ LONGEST
-left_small q a = omega (arith, (side_inside q a Right).1, ((exactly_under LIMITS q).0 a).0)
 
 -- both sides, counted
 pub both_length : (ls rs : List (Bor (List ℕ))) → 4 + sum_by (λ f. length f.now) ls + sum_by (λ f. length f.now) rs ≡ length (side_bytes Left ls ++ side_bytes Right rs)

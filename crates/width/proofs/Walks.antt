@@ -10,8 +10,9 @@ use lib.Pow.{pow_mono}
 use lib.ListN.{get_or}
 use Rattle.calculus.specs.declared.Side.{Side}
 use Rattle.calculus.specs.declared.Side.TheVariants.{Left, Right}
+use Rattle.calculus.specs.declared.Pair.{Pair}
 use Rattle.calculus.specs.Limits.{CONNECTIVES}
-use Rattle.calculus.specs.Syntax.{Binary, Connective, NOT, two, Formula, letter, neg, join, compound, connectives}
+use Rattle.calculus.specs.Syntax.{side_of, Binary, Connective, NOT, two, Formula, letter, neg, join, compound, connectives}
 use Rattle.calculus.specs.Width.{width}
 use Rattle.calculus.specs.Bytes.{CONNECTIVE, code}
 use Rattle.calculus.proofs.Bounds.{width_le}
@@ -24,9 +25,8 @@ use Rattle.question.specs.declared.connective.Binary.TheVariants.{And, Or, Impli
 use Rattle.question.specs.declared.connective.Connective.{Connective as Named}
 use Rattle.question.specs.declared.connective.Connective.TheVariants.{Not, Two}
 use Rattle.question.specs.Connectives.{binary_of, connective_of, command_of}
-use Rattle.width.specs.declared.Pair.{Pair}
 use Rattle.width.specs.declared.Walked.{Walked}
-use Rattle.width.specs.Walks.{side_of, exchanged, joined, Fit, pair_of, walk_of}
+use Rattle.width.specs.Walks.{exchanged, joined, Fit, pair_of, walk_of}
 
 -- ---- the pair of a joined formula
 
@@ -98,11 +98,11 @@ pub first_less : (q : List ℕ) (p : ℕ) → FirstAt q p → suc (connectives (
 first_less q p a = rw a.stands (compound_less a.connective (formula_at q (p + 1)) a.second)
 
 -- "NOT exchanges the pair"
-pub walk_not : (q : List ℕ) (p : ℕ) → NotAt q p → (w : Walked Pair) → w ≡ walk_of q (p + 1)
+pub walk_not : (q : List ℕ) (p : ℕ) → NotAt q p → (w : Walked (Pair ℕ)) → w ≡ walk_of q (p + 1)
     → record { value = exchanged w.value; connectives = w.connectives + 1; end = w.end } ≡ walk_of q p
 walk_not q p a w e = rw (e, add-one (connectives (formula_at q (p + 1)))) (walk q p (neg (formula_at q (p + 1))) (end_of q (p + 1)) a.stands a.ends)
 
-pub walk_two : (q : List ℕ) (p : ℕ) (a : TwoAt q p) (v w : Walked Pair) (j : Pair) → v ≡ walk_of q (p + 1) → w ≡ walk_of q v.end
+pub walk_two : (q : List ℕ) (p : ℕ) (a : TwoAt q p) (v w : Walked (Pair ℕ)) (j : Pair ℕ) → v ≡ walk_of q (p + 1) → w ≡ walk_of q v.end
     → j ≡ joined a.o v.value w.value
     → record { value = j; connectives = v.connectives + w.connectives + 1; end = w.end } ≡ walk_of q p
 walk_two q p a v w j e f h =

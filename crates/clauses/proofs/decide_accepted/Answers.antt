@@ -17,5 +17,7 @@ pub returns : goal.returns
 returns c =
     let q = c.args.q in
     let s = question q.bytes.now in
-    right_formula s c.start.result (length s.on_right) c.start.ensures refl
+    let xs = c.formulas.result in
+    let own = c.formulas.ensures in
+    right_formula s xs.start (length s.on_right) (rw (own.0, own.1) at xs.starts) refl
     (right_there q.bytes.now q.accepted (λ e. c.if-q-tail.false (e ∙ sym c.head_of.ensures)))

@@ -1,4 +1,4 @@
-use Rattle.std.proofs.Common.{◌≡◌, Err, ◌∙◌, rules}
+use Rattle.std.proofs.Common.{◌≡◌, Err, ◌∙◌, rules, length}
 use Rattle.calculus.specs.Bytes.{question}
 use Rattle.calculus.specs.Reply.{profile_reply}
 use Rattle.clauses.specs.Answers.{reply_of}
@@ -6,19 +6,26 @@ use Rattle.clauses.proofs.Profiles.{left_of, left_few, storing_first, storing_we
 use Rattle.clauses.proofs.decide_left.Goals as goal
 
 pub slice_bounds-clauses-end : goal.slice_bounds-clauses-end
-slice_bounds-clauses-end c = let q = c.args.q in left_few q.bytes.now q.accepted c.count-n.result c.count-n.ensures
+slice_bounds-clauses-end c =
+    let q = c.args.q in
+    let own = c.left-formulas.ensures in
+    left_few q.bytes.now q.accepted c.count-n.result (rw (own.0, own.1) at c.count-n.ensures)
 
 pub slice_bounds-clause-items-end : goal.slice_bounds-clause-items-end
 slice_bounds-clause-items-end c =
     let q = c.args.q in
-    let few = left_few q.bytes.now q.accepted c.count-n.result c.count-n.ensures in
+    let own = c.left-formulas.ensures in
+    let few = left_few q.bytes.now q.accepted c.count-n.result (rw (own.0, own.1) at c.count-n.ensures) in
     search rules
 
 pub loop-clause-init : goal.loop-clause-init
 loop-clause-init c =
     let q = c.args.q in
-    let few = left_few q.bytes.now q.accepted c.count-n.result c.count-n.ensures in
-    storing_first q.bytes.now q.accepted c.start-at.result c.count-n.result c.start-at.ensures c.count-n.ensures _ (search rules)
+    let xs = c.left-formulas.result in
+    let own = c.left-formulas.ensures in
+    let counted : c.count-n.result ≡ length (question q.bytes.now).on_left = rw (own.0, own.1) at c.count-n.ensures in
+    let few = left_few q.bytes.now q.accepted c.count-n.result counted in
+    storing_first q.bytes.now q.accepted xs.start c.count-n.result (rw (own.0, own.1) at xs.starts) counted _ (search rules)
 
 pub clause_at-requires : goal.clause_at-requires
 clause_at-requires c = storing_well c.loop-clause.invariant (search rules)

@@ -7,4 +7,6 @@ use Rattle.spelling.proofs.enter_side.Given as goal
 
 abbrev pub invariant-loop : goal.invariant-loop
 invariant-loop l =
-    Arranging l.q.bytes.now (on_side l.fn.side (question l.q.bytes.now)) (l.start + bytes_all (on_side l.fn.side (question l.q.bytes.now))) (map (λ f. f.now) l.formulas.items) l.at (l.end - l.counter)
+    let xs = l.fn.xs in
+    let side = on_side xs.side (question xs.q.bytes.now) in
+    Arranging xs.q.bytes.now side (xs.start + bytes_all side) (map (λ f. f.now) l.formulas.items) l.at (l.end - l.counter)

@@ -1,14 +1,12 @@
 use Rattle.std.proofs.Common.{arith, ap, map}
-use Rattle.spelling.proofs.Replies.{Entered, entered, left_small, small, call_answers}
+use Rattle.spelling.proofs.Replies.{Entered, entered, small, call_answers}
 use Rattle.spelling.proofs.spell.Goals as goal
 use Rattle.spelling.proofs.spell.Goals.{After-as_slice-2}
 
-pub overflow_add-start : goal.overflow_add-start
-overflow_add-start c = omega (arith, c.enter_side-start.ensures.1, left_small c.in_ok-q.q.bytes.now c.in_ok-q.q.accepted)
-
 sides : (c : After-as_slice-2) → Entered c.args.q.now c.as_slice.result.now c.as_slice-2.result.now
 sides c =
-    entered c.in_ok-q.q c.args.q.now c.in_ok-q.ensures.bytes _ _ (ap (map (λ f. f.now)) c.as_slice.ensures.value) c.enter_side-start.ensures.0 (ap (map (λ f. f.now)) c.as_slice-2.ensures.value) c.enter_side.ensures.0
+    entered c.in_ok-q.q c.args.q.now c.in_ok-q.ensures.bytes c.left.result c.right.result c.left.ensures c.right.ensures _ _
+    (ap (map (λ f. f.now)) c.as_slice.ensures.value) c.enter_side-end.ensures.0 (ap (map (λ f. f.now)) c.as_slice-2.ensures.value) c.enter_side.ensures.0
 
 pub write_sides-requires : goal.write_sides-requires
 write_sides-requires c =

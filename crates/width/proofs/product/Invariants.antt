@@ -4,8 +4,9 @@ use Rattle.std.proofs.Common.{◌-◌, take, drop}
 use Rattle.calculus.specs.Bytes.{formulas}
 use Rattle.width.specs.Walks.{product_of}
 use Rattle.width.proofs.Products.{Ahead}
-use Rattle.width.proofs.side_product.Given as goal
+use Rattle.width.proofs.product.Given as goal
 
 abbrev pub invariant-loop : goal.invariant-loop
 invariant-loop l =
-    Ahead l.q.bytes.now l.side (product_of l.side l.start (take l.n (formulas (drop l.start l.q.bytes.now)))) l.all.value l.all.connectives l.all.end (l.n - l.counter)
+    let q = l.xs.q.bytes.now in
+    Ahead q l.xs.side (product_of l.xs.side l.xs.start (take l.end (formulas (drop l.xs.start q)))) l.all.value l.all.connectives l.all.end (l.end - l.counter)
