@@ -18,6 +18,7 @@ use Rattle.calculus.specs.Bytes.{CONNECTIVE, code}
 use Rattle.calculus.proofs.Bounds.{width_le}
 use Rattle.calculus.proofs.Spelling.{code_injective}
 use Rattle.question.specs.Positions.{Well, formula_at, end_of}
+use Rattle.question.proofs.Connectives.{binary_range}
 use Rattle.question.proofs.Readers.{connective_range}
 use Rattle.question.proofs.Parts.{LetterAt, FirstAt, NotAt, TwoAt, letter_at, first_at, not_at, two_at}
 use Rattle.question.specs.declared.connective.Binary.{Binary as Joins}
@@ -56,13 +57,6 @@ fit q p h o s =
 pub told : (o p : Binary) → code (CONNECTIVE (two o)) ≡ code (CONNECTIVE (two p)) → o ≡ p
 told o p e = cc (code_injective (CONNECTIVE (two o)) (CONNECTIVE (two p)) e)
 
--- a binary one is 3 or more
-three : (o : Joins) → 3 ≤ command_of (Two o)
-three And = omega arith
-three Or = omega arith
-three Implies = omega arith
-three Equiv = omega arith
-
 module _ (q : List ℕ) (p : ℕ) (w : Well q p) where
   pub no_command : ((k : Named) → get_or q p 0 ≡ command_of k → ⊥) → LetterAt q p
   no_command n = letter_at q p w (λ l. omega (arith, n Not, n (Two And), n (Two Or), n (Two Implies), n (Two Equiv)))
@@ -76,7 +70,7 @@ module _ (q : List ℕ) (p : ℕ) (w : Well q p) where
   pub two_parts : (k : Named) (o : Joins) → k ≡ Two o → get_or q p 0 ≡ command_of k → (a : TwoAt q p) × (a.o ≡ binary_of o)
   two_parts k o i e =
       let b : get_or q p 0 ≡ code (CONNECTIVE (two (binary_of o))) = rw i at e in
-      let a = two_at q p w (omega (arith, b, three o)) (λ z. omega (arith, b, three o)) in
+      let a = two_at q p w (omega (arith, b, binary_range o)) (λ z. omega (arith, b, binary_range o)) in
       (a, told a.o (binary_of o) (sym a.byte ∙ b))
 
 -- ---- by the formula that stands at a position
