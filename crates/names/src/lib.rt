@@ -18,12 +18,18 @@ ghost use Rattle.names.specs.Loads.{Nodes, Noted, Numbers, Numbered, none_yet, L
 use question::{ALL_CONNECTIVES, Connective, Formulas, LETTERS, Question};
 use sequent::{Half, Names, ROOM, Running};
 
-// A formula's name, the position behind it and the number of the next node.
+// The nodes in use, from the first, and how many these are.
+#[derive(Drop)]
+pub struct Numbering {
+    pub nodes: [u32; ALL_CONNECTIVES],
+    pub count: usize,
+}
+
+// A formula's name, and the position behind it.
 #[derive(Clone, Copy)]
 pub struct Named {
     pub name: u8,
     pub end: usize,
-    pub next: usize,
 }
 
 // The places filled so far, the letters and the compounds of the side that is being filled, the position behind its formulas so
@@ -34,13 +40,12 @@ pub struct Loaded {
     pub mask: u64,
     pub set: u64,
     pub end: usize,
-    pub next: usize,
 }
 
-// Room for the nodes of a question's compounds and the names of its formulas.
+// Room for the nodes of a question's compounds and the names of its formulas, none of them in use at first.
 #[derive(Drop)]
 pub struct Lists {
-    pub nodes: [u32; ALL_CONNECTIVES],
+    pub numbering: Numbering,
     pub items: [u8; ROOM],
 }
 
@@ -49,7 +54,10 @@ impl Lists {
         ensures { (result.nodes ≡ replicate CONNECTIVES 0) × (result.items ≡ replicate Limits.ROOM 0) }
     {
         Lists {
-            nodes: [0; ALL_CONNECTIVES],
+            numbering: Numbering {
+                nodes: [0; ALL_CONNECTIVES],
+                count: 0,
+            },
             items: [0; ROOM],
         }
     }
@@ -59,7 +67,7 @@ impl Lists {
         ensures { (result.nodes.now ≡ self.now.nodes) × (result.items.now ≡ self.now.items) }
     {
         Names {
-            nodes: &self.nodes,
+            nodes: &self.numbering.nodes,
             items: &self.items,
         }
     }
@@ -80,7 +88,7 @@ fn name(n: usize) -> u8
 }
 
 // The name of the compound that has a node: that of an equal node, or the next.
-fn note(nodes: &mut [u32; ALL_CONNECTIVES], w: u32, end: usize, n: usize) -> Named
+fn note(numbering: &mut Numbering, w: u32, end: usize) -> Named
     requires { (n < CONNECTIVES)
         × (length nodes.old ≡ CONNECTIVES)
         × Nodes nodes.old n
@@ -88,62 +96,48 @@ fn note(nodes: &mut [u32; ALL_CONNECTIVES], w: u32, end: usize, n: usize) -> Nam
         × (second_of w < Limits.LETTERS + n) }
     ensures { Noted w end n nodes.old nodes.new result }
 {
-    if let Some(i) = nodes[..n].iter().position(|x| *x == w) {
-        return Named {
-            name: name(i),
-            end,
-            next: n,
-        };
+    let n = numbering.count;
+    if let Some(i) = numbering.nodes[..n].iter().position(|x| *x == w) {
+        return Named { name: name(i), end };
     }
-    nodes[n] = w;
-    Named {
-        name: name(n),
-        end,
-        next: n + 1,
-    }
+    numbering.nodes[n] = w;
+    numbering.count = n + 1;
+    Named { name: name(n), end }
 }
 
-// Names the formula at a position, where n nodes are in use, and notes the nodes of its compounds. The number n stands beside the
-// nodes: with both in one struct naming takes 1.1 to 1.4 times as long.
+// Names the formula at a position, and notes the nodes of its compounds.
 #[cycle(number_number_parts)]
-fn number(q: &[u8], nodes: &mut [u32; ALL_CONNECTIVES], at: usize, n: usize) -> Named
+fn number(q: &[u8], numbering: &mut Numbering, at: usize) -> Named
     requires { Numbers q.now at n nodes.old }
     ensures { Numbered q.now at n nodes.old nodes.new result }
 {
     match Connective::try_from(q[at]) {
-        Ok(k) => number_parts(q, nodes, at, k, n),
+        Ok(k) => number_parts(q, numbering, at, k),
         Err(_) => Named {
             name: q[at + 1],
             end: at + 2,
-            next: n,
         },
     }
 }
 
 // A compound with the connective k: its parts, then itself.
 #[cycle(number_number_parts)]
-fn number_parts(
-    q: &[u8],
-    nodes: &mut [u32; ALL_CONNECTIVES],
-    at: usize,
-    k: Connective,
-    n: usize,
-) -> Named
+fn number_parts(q: &[u8], numbering: &mut Numbering, at: usize, k: Connective) -> Named
     requires { Numbers q.now at n nodes.old × (get_or q.now at 0 ≡ command_of k) }
     ensures { Numbered q.now at n nodes.old nodes.new result }
 {
-    let f = number(q, nodes, at + 1, n);
+    let f = number(q, numbering, at + 1);
     match k {
-        Connective::Not => note(nodes, node(k, f.name, f.name), f.end, f.next),
+        Connective::Not => note(numbering, node(k, f.name, f.name), f.end),
         Connective::Two(_) => {
-            let g = number(q, nodes, f.end, f.next);
-            note(nodes, node(k, f.name, g.name), g.end, g.next)
+            let g = number(q, numbering, f.end);
+            note(numbering, node(k, f.name, g.name), g.end)
         }
     }
 }
 
 // The next formula of a side.
-fn enter(q: &[u8], nodes: &mut [u32; ALL_CONNECTIVES], items: &mut [u8; ROOM], l: Loaded) -> Loaded
+fn enter(q: &[u8], numbering: &mut Numbering, items: &mut [u8; ROOM], l: Loaded) -> Loaded
     requires { (first : ℕ) × (xs : List Formula) × Loads nodes.old items.old first l xs × Enters q.now l xs }
     ensures { ((first : ℕ) (xs : List Formula) → Loads nodes.old items.old first l xs
         → Enters q.now l xs
@@ -151,7 +145,7 @@ fn enter(q: &[u8], nodes: &mut [u32; ALL_CONNECTIVES], items: &mut [u8; ROOM], l
         × (take l.places items.new ≡ take l.places items.old)
         × (result.end ≡ end_of q.now l.end) }
 {
-    let f = number(q, nodes, l.end, l.next);
+    let f = number(q, numbering, l.end);
     let n = l.places;
     items[n] = f.name;
     Loaded {
@@ -159,17 +153,15 @@ fn enter(q: &[u8], nodes: &mut [u32; ALL_CONNECTIVES], items: &mut [u8; ROOM], l
         mask: l.mask | sequent::letter_bit(f.name),
         set: l.set | sequent::compound_bit(f.name),
         end: f.end,
-        next: f.next,
     }
 }
 
 // The formulas of a side of an accepted question, where so many places and nodes are in use.
 fn load(
     xs: Formulas<'_>,
-    nodes: &mut [u32; ALL_CONNECTIVES],
+    numbering: &mut Numbering,
     items: &mut [u8; ROOM],
     places: usize,
-    next: usize,
 ) -> Loaded
     requires { Loads nodes.old items.old places (none_yet places xs.start next) (before xs.side (question xs.q.bytes.now)) }
     ensures { let S = question xs.entry.q.bytes.now in let ys = on_side xs.entry.side S in Loads nodes.new items.new places result (before xs.entry.side S ++ ys)
@@ -182,10 +174,9 @@ fn load(
         mask: 0,
         set: 0,
         end: xs.start,
-        next,
     };
     for _i in 0..n {
-        l = enter(xs.q.bytes, nodes, items, l);
+        l = enter(xs.q.bytes, numbering, items, l);
     }
     l
 }
@@ -195,10 +186,10 @@ pub fn root(q: Question<'_>, lists: &mut Lists) -> Running
     ensures { Good lists.new.nodes lists.new.items result
         × (sequent_of lists.new.nodes lists.new.items result ≡ question q.entry.bytes.now) }
 {
-    let nodes = &mut lists.nodes;
+    let numbering = &mut lists.numbering;
     let items = &mut lists.items;
-    let l = load(q.left(), nodes, items, 0, 0);
-    let r = load(q.right(l.end), nodes, items, l.places, l.next);
+    let l = load(q.left(), numbering, items, 0);
+    let r = load(q.right(l.end), numbering, items, l.places);
     Running {
         left: Half {
             count: l.places,
