@@ -18,6 +18,8 @@ use Rattle.calculus.proofs.Derivations.{passes_true, passes_exactly}
 use Rattle.calculus.proofs.Readings.{accepted_question, within_room}
 use Rattle.question.specs.declared.Refusal.{Refusal}
 use Rattle.question.specs.Answers.{number_of, place_of}
+use Rattle.sequent.specs.declared.Running.{Running}
+use Rattle.sequent.specs.View.{sequent_of, Good}
 use Rattle.checker.specs.declared.Fault.{Fault}
 use Rattle.checker.specs.declared.Fault.TheVariants.{BytesAfter}
 use Rattle.checker.specs.declared.NotPassed.{NotPassed}
@@ -25,9 +27,12 @@ use Rattle.checker.specs.declared.NotPassed.TheVariants.{Refused, Faulty}
 use Rattle.checker.specs.Answers.{fault_number, fault_place, check_of}
 use Rattle.checker.specs.Walks.{Roomy, Walks}
 
--- An accepted question leaves room.
-pub question_roomy : (q : List ℕ) (S : Sequent) → reading q ≡ accepted → S ≡ question q → Roomy S
-question_roomy q S e h = omega (arith, within_room (question q) (accepted_question q e).0, ap c h, ap size h)
+-- The running sequent of an accepted question, whose lists are lent, leaves room.
+pub root_roomy : (q : List ℕ) {T U items xs : List ℕ} {s : Running} → reading q ≡ accepted → Good T items s × (sequent_of T items s ≡ question q) → (U ≡ T) × (xs ≡ items)
+    → Good U xs s × Roomy (sequent_of U xs s)
+root_roomy q {T} {U} {items} {xs} {s} e root lent =
+    let k : Roomy (sequent_of T items s) = omega (arith, within_room (question q) (accepted_question q e).0, ap c root.1, ap size root.1) in
+    rw (lent.0, lent.1) (root.0, k)
 
 -- Where the reply is that the derivation passes, the question is accepted and the derivation passes.
 pass_reply : (q d : List ℕ) → check_of (Ok tt) ≡ check_reply q d → (reading q ≡ accepted) × (checking (question q) d ≡ passes)
@@ -59,23 +64,29 @@ answered q d a e =
 pub answer_refused : (q d : List ℕ) (r : Refusal) → refused (number_of r) (place_of r) ≡ reading q → Answered q d (Err (Refused r))
 answer_refused q d r e = answered q d (Err (Refused r)) (ap (λ (x : Reading). if_read x (checked_reply (checking (question q) d))) e)
 
-module _ (q d : List ℕ) (e : reading q ≡ accepted) (S : Sequent) (h : S ≡ question q) where
+-- The question is asked, and its running sequent and the lists lent stand for it.
+module _ (d : List ℕ) {q asked T U items xs : List ℕ} {s : Running} (reads : accepted ≡ reading q) (bytes : asked ≡ q) (root : Good T items s × (sequent_of T items s ≡ question asked)) (lent : (U ≡ T) × (xs ≡ items)) where
   replied : (k : Checked) → checking (question q) d ≡ k → checked_reply k ≡ check_reply q d
-  replied k j = sym (rw (e, j))
+  replied k j = sym (rw (sym reads, j))
 
-  pub answer_faulty : (f : Fault) → Walks d (S ∷ []) 0 (Err f) → Answered q d (Err (Faulty f))
-  answer_faulty f w = answered q d (Err (Faulty f)) (replied (faulty (fault_number f) (fault_place f)) (subst (λ (R : Sequent). Walks d (R ∷ []) 0 (Err f)) h w []))
+  -- a walk from the sequent that they stand for is one from the question's
+  from_question : (w : Result ℕ Fault) → Walks d (sequent_of U xs s ∷ []) 0 w → Walks d (question q ∷ []) 0 w
+  from_question w = subst (λ (S : Sequent). Walks d (S ∷ []) 0 w) (rw (lent.0, lent.1) root.1 ∙ ap question bytes)
 
-  ended : (n : ℕ) → Walks d (S ∷ []) 0 (Ok n) → checking (question q) d ≡ check (drop n d) [] n
-  ended n w = (subst (λ (R : Sequent). Walks d (R ∷ []) 0 (Ok n)) h w).1 []
+  pub answer_faulty : (f : Fault) → Walks d (sequent_of U xs s ∷ []) 0 (Err f) → Answered q d (Err (Faulty f))
+  answer_faulty f w = answered q d (Err (Faulty f)) (replied (faulty (fault_number f) (fault_place f)) (from_question (Err f) w []))
 
-  pub answer_after : (n : ℕ) → Walks d (S ∷ []) 0 (Ok n) → n < length d → Answered q d (Err (Faulty (BytesAfter n)))
-  answer_after n w l = answered q d (Err (Faulty (BytesAfter n))) (replied (faulty BYTES_AFTER n) (ended n w ∙ go (drop n d) (omega (arith, length-drop n d))))
-    where
-      go : (bs : List ℕ) → 1 ≤ length bs → check bs [] n ≡ faulty BYTES_AFTER n
-      go [] k = absurd (omega arith)
-      go (b ∷ []) k = refl
-      go (b ∷ i ∷ bs) k = refl
+  module _ (n : ℕ) (w : Walks d (sequent_of U xs s ∷ []) 0 (Ok n)) where
+    ended : checking (question q) d ≡ check (drop n d) [] n
+    ended = (from_question (Ok n) w).1 []
 
-  pub answer_passes : (n : ℕ) → Walks d (S ∷ []) 0 (Ok n) → length d ≤ n → Answered q d (Ok tt)
-  answer_passes n w l = answered q d (Ok tt) (replied passes (ended n w ∙ ap (λ (bs : List ℕ). check bs [] n) (drop_of_length-le d {i = n} l)))
+    pub answer_after : n < length d → Answered q d (Err (Faulty (BytesAfter n)))
+    answer_after l = answered q d (Err (Faulty (BytesAfter n))) (replied (faulty BYTES_AFTER n) (ended ∙ go (drop n d) (omega (arith, length-drop n d))))
+      where
+        go : (bs : List ℕ) → 1 ≤ length bs → check bs [] n ≡ faulty BYTES_AFTER n
+        go [] k = absurd (omega arith)
+        go (b ∷ []) k = refl
+        go (b ∷ i ∷ bs) k = refl
+
+    pub answer_passes : length d ≤ n → Answered q d (Ok tt)
+    answer_passes l = answered q d (Ok tt) (replied passes (ended ∙ ap (λ (bs : List ℕ). check bs [] n) (drop_of_length-le d {i = n} l)))

@@ -3,12 +3,12 @@
 use mathlib.Core.Path.{◌≡◌, refl, sym, ap, ◌∙◌, subst}
 use mathlib.Core.Bool.{Bool, true, false, ◌&&◌}
 use mathlib.Core.Option.{Option as Maybe, none, some}
-use Rattle.std.specs.Prelude.{Option, Some, None, Result, Ok, Err}
+use Rattle.std.specs.Prelude.{Result, Ok, Err}
 use mathlib.Core.List.{List, [], ◌∷◌}
-use Prim.Native.Nat.{ℕ, zero, suc, ◌≤◌, ◌<◌, ◌%◌}
+use Prim.Native.Nat.{ℕ, zero, suc, ◌+◌, ◌≤◌, ◌<◌, ◌%◌}
 use native.Mathlib.Omega.{arith}
 use lib.Dec.{eqb}
-use lib.ListN.{length, get_elem?, length-map}
+use lib.ListN.{length, get_or, get_elem?, length-map}
 use borrow.Author.Tests.{ne_eqb}
 use Rattle.calculus.specs.declared.Side.{Side}
 use Rattle.calculus.specs.declared.Side.TheVariants.{Left, Right}
@@ -18,30 +18,27 @@ use Rattle.calculus.specs.Syntax.{Connective, NOT, two, Formula, letter, Compoun
 use Rattle.calculus.specs.Bytes.{CONNECTIVE, code}
 use Rattle.calculus.specs.Table.{premises}
 use Rattle.calculus.specs.Truth.{bit}
-use Rattle.calculus.specs.Tree.{letters, among}
-use Rattle.calculus.specs.Derivation.{Order as Command, CLOSE, PAIR, REDUCE, order, Move as Said, fault, waiting, named, pairs, obey}
+use Rattle.calculus.specs.Tree.{letters}
+use Rattle.calculus.specs.Derivation.{Order as Command, CLOSE, Move as Said, fault, waiting, named, pairs, obey}
 use Rattle.calculus.proofs.Folds.{each}
 use Rattle.calculus.proofs.Sequents.{Due, weight_size, Smaller, smaller}
-use Rattle.calculus.proofs.Spelling.{code_injective}
 use Rattle.calculus.proofs.Trees.{bit_state, Letter}
 use Rattle.calculus.proofs.Derivations.{named_whole, pairs_whole, equals_not}
 use Rattle.question.specs.declared.connective.Connective.{Connective as Named}
-use Rattle.question.specs.Connectives.{connective_of}
-use Rattle.question.proofs.Connectives.{coded_is}
+use Rattle.question.specs.Connectives.{connective_of, command_of}
+use Rattle.question.proofs.Connectives.{one_command, same_connective}
 use Rattle.sequent.specs.declared.Running.{Running}
 use Rattle.sequent.specs.declared.Reduction.{Reduction}
 use Rattle.sequent.specs.Names.{formula_in}
-use Rattle.sequent.specs.View.{view, count_of, name_at, sequent_of, Good}
+use Rattle.sequent.specs.View.{view, count_of, slot_of, name_at, sequent_of, Good}
 use Rattle.sequent.specs.Compounds.{compound_at, reduction_at}
 use Rattle.sequent.proofs.Namings.{letter_named, same_name}
-use Rattle.sequent.proofs.Goods.{held, masks_state, equal_formulas, inside, known_at, formula_at_lem, compounded, stands}
-use Rattle.checker.specs.declared.Order.{Order}
-use Rattle.checker.specs.declared.Order.TheVariants.{Close, Pair, Reduce as Reduction-of}
+use Rattle.sequent.proofs.Goods.{held, masks_state, equal_formulas, inside, slot_name, known_at, formula_at_lem, compounded, stands}
 use Rattle.checker.specs.declared.Fault.{Fault}
-use Rattle.checker.specs.declared.Fault.TheVariants.{NoFormula, OtherConnective, NotClosed, UnknownCommand, NotEqual}
+use Rattle.checker.specs.declared.Fault.TheVariants.{NoFormula, OtherConnective, NotClosed, NotEqual}
 use Rattle.checker.specs.declared.Move.{Move}
 use Rattle.checker.specs.declared.Move.TheVariants.{Closed, Paired, Reduce}
-use Rattle.checker.specs.Walks.{order_of, Roomy, Moves}
+use Rattle.checker.specs.Walks.{Roomy, Moves}
 
 -- ---- premises leave room again
 
@@ -55,7 +52,7 @@ past [] i h = refl
 past (x ∷ xs) zero h = absurd (omega arith)
 past (x ∷ xs) (suc i) h = past xs i (omega arith)
 
-module _ (T items : List ℕ) (s : Running) (good : Good T items s) where
+module _ {T items : List ℕ} {s : Running} (good : Good T items s) where
   count : (t : Side) → length (on_side t (sequent_of T items s)) ≡ count_of t s
   count Left = length-map (view s items).on_left (formula_in T) ∙ held T items s good Left
   count Right = length-map (view s items).on_right (formula_in T) ∙ held T items s good Right
@@ -68,26 +65,40 @@ module _ (T items : List ℕ) (s : Running) (good : Good T items s) where
 
   -- ---- a reduction at the place i, which is the operand n
 
-  module _ (t : Side) (i n at : ℕ) (read : i ≡ n) where
-    abbrev At : Connective → ℕ → Said
-    At k j = named t j k (sequent_of T items s) (get_elem? (on_side t (sequent_of T items s)) j)
+  module _ (t : Side) {i n m : ℕ} (at : ℕ) (k : Named) (read : i ≡ n) (counted : m ≡ count_of t s) where
+    abbrev At : ℕ → Said
+    At j = named t j (connective_of k) (sequent_of T items s) (get_elem? (on_side t (sequent_of T items s)) j)
 
-    operand : (k : Connective) (m : Result Move Fault) → Moves T items s at (At k i) m → Moves T items s at (At k n) m
-    operand k m = subst (λ (j : ℕ). Moves T items s at (At k j) m) read
+    operand : (a : Result Move Fault) → Moves T items s at (At i) a → Moves T items s at (At n) a
+    operand a = subst (λ (j : ℕ). Moves T items s at (At j) a) read
 
-    pub no_formula : count_of t s ≤ i → (k : Connective) → Moves T items s at (At k n) (Err (NoFormula at))
-    no_formula h k = operand k (Err (NoFormula at)) (ap (named t i k (sequent_of T items s)) (no_formula_at t i h), refl)
+    pub no_formula : m ≤ i → Moves T items s at (At n) (Err (NoFormula at))
+    no_formula h = operand (Err (NoFormula at)) (ap (named t i (connective_of k) (sequent_of T items s)) (no_formula_at t i (omega arith)), refl)
 
-    module _ (h : i < count_of t s) (k : Connective) where
-      pub a_letter : name_at t i (view s items) < LETTERS → Moves T items s at (At k n) (Err (OtherConnective at))
-      a_letter l = operand k (Err (OtherConnective at)) (ap (named t i k (sequent_of T items s)) (formula_at_lem T items s good t i h ∙ ap (λ (y : Formula). some y) (letter_at t i h l)), refl)
+    -- the name read is the one at the place
+    module _ {u : ℕ} (few : i < m) (slot : u ≡ slot_of t i s) where
+      h : i < count_of t s
+      h = omega arith
 
-      module _ (c : LETTERS ≤ name_at t i (view s items)) (r : Reduction) (e : r ≡ reduction_at T t i (view s items)) where
+      name : get_or items u 0 ≡ name_at t i (view s items)
+      name = rw slot (slot_name T items s good t i h)
+
+      pub a_letter : get_or items u 0 < LETTERS → Moves T items s at (At n) (Err (OtherConnective at))
+      a_letter l =
+          operand (Err (OtherConnective at)) (
+            ap (named t i (connective_of k) (sequent_of T items s)) (formula_at_lem T items s good t i h ∙ ap (λ (y : Formula). some y) (letter_at t i h (omega (arith, name)))),
+            refl,
+          )
+
+      module _ (above : LETTERS ≤ get_or items u 0) {r : Reduction} (e : r ≡ reduction_at T t i (view s items)) where
+        c : LETTERS ≤ name_at t i (view s items)
+        c = omega (arith, name)
+
         abbrev x : Compound
         x = compound_at T t i (view s items)
 
-        stands_there : At k i ≡ named t i k (sequent_of T items s) (some (whole x))
-        stands_there = ap (named t i k (sequent_of T items s)) (stands T items s good t i h c)
+        stands_there : At i ≡ named t i (connective_of k) (sequent_of T items s) (some (whole x))
+        stands_there = ap (named t i (connective_of k) (sequent_of T items s)) (stands T items s good t i h c)
 
         command : r.node % 256 ≡ code (CONNECTIVE x.connective)
         command = ap (λ (u : Reduction). u.node % 256) e ∙ (compounded T items s good t i h c).command
@@ -96,101 +107,83 @@ module _ (T items : List ℕ) (s : Running) (good : Good T items s) where
         pub named_there : (j : Connective) × (code (CONNECTIVE j) ≡ r.node % 256)
         named_there = (x.connective, sym command)
 
-        pub other_connective : (r.node % 256 ≡ code (CONNECTIVE k) → ⊥) → Moves T items s at (At k n) (Err (OtherConnective at))
-        other_connective z = operand k (Err (OtherConnective at)) (stands_there ∙ by x.connective (ne_eqb _ _ (λ d. z (command ∙ sym d))), refl)
-          where
-            by : (j : Connective) → eqb (code (CONNECTIVE k)) (code (CONNECTIVE j)) ≡ false → named t i k (sequent_of T items s) (some (compound j x.f x.g)) ≡ fault OTHER_CONNECTIVE
-            by NOT d = rw d
-            by (two o) d = rw d
+        module _ {j : Named} (d : command_of j ≡ r.node % 256) where
+          pub other_connective : (j ≡ k → ⊥) → Moves T items s at (At n) (Err (OtherConnective at))
+          other_connective z = operand (Err (OtherConnective at)) (stands_there ∙ by x.connective (ne_eqb _ _ (λ e. z (same_connective j k (d ∙ command ∙ sym e)))), refl)
+            where
+              by : (l : Connective) → eqb (command_of k) (code (CONNECTIVE l)) ≡ false → named t i (connective_of k) (sequent_of T items s) (some (compound l x.f x.g)) ≡ fault OTHER_CONNECTIVE
+              by NOT e = rw e
+              by (two o) e = rw e
 
-        pub reduces : Roomy (sequent_of T items s) → r.node % 256 ≡ code (CONNECTIVE k) → Moves T items s at (At k n) (Ok (Reduce r))
-        reduces roomy d =
-            let j : k ≡ x.connective = same k x.connective (sym d ∙ command) in
-            let w = roomy_premises t i x (sequent_of T items s) (stands T items s good t i h c) roomy in
-            operand k (Ok (Reduce r)) (subst (λ (u : Reduction). Moves T items s at (At k i) (Ok (Reduce u))) (sym e) (
-              stands_there ∙ ap (λ (l : Connective). named t i l (sequent_of T items s) (some (whole x))) j ∙ named_whole t i x (sequent_of T items s),
-              record { inside = h; compound = c; exact = refl; fits = each Roomy (λ P. size P ≤ ROOM) (λ P l. omega arith) (premises t i x (sequent_of T items s)) w },
-            ))
-          where
-            same : (k j : Connective) → code (CONNECTIVE k) ≡ code (CONNECTIVE j) → k ≡ j
-            same k j e = cc (code_injective (CONNECTIVE k) (CONNECTIVE j) e)
+          pub reduces : Roomy (sequent_of T items s) → j ≡ k → Moves T items s at (At n) (Ok (Reduce r))
+          reduces roomy same =
+              let l : connective_of k ≡ x.connective = one_command k x.connective (ap command_of (sym same) ∙ d ∙ command) in
+              let w = roomy_premises t i x (sequent_of T items s) (stands T items s good t i h c) roomy in
+              operand (Ok (Reduce r)) (subst (λ (u : Reduction). Moves T items s at (At i) (Ok (Reduce u))) (sym e) (
+                stands_there ∙ ap (λ (l : Connective). named t i l (sequent_of T items s) (some (whole x))) l ∙ named_whole t i x (sequent_of T items s),
+                record { inside = h; compound = c; exact = refl; fits = each Roomy (λ P. size P ≤ ROOM) (λ P l. omega arith) (premises t i x (sequent_of T items s)) w },
+              ))
 
-  -- ---- 42 at a left and a right place
+  -- ---- 42 at a left and a right place, u and v, which are the operands i and j
 
-  module _ (i j at : ℕ) where
+  module _ {i j u v : ℕ} (at : ℕ) (read_left : u ≡ i) (read_right : v ≡ j) where
     abbrev Both : Said
     Both = pairs (get_elem? (sequent_of T items s).on_left i) (get_elem? (sequent_of T items s).on_right j)
 
-    pub no_left : s.left.count ≤ i → Moves T items s at Both (Err (NoFormula at))
-    no_left h = (rw (no_formula_at Left i h), refl)
+    pub no_left : s.left.count ≤ u → Moves T items s at Both (Err (NoFormula at))
+    no_left h = (rw (no_formula_at Left i (omega arith)), refl)
 
-    module _ (h : i < s.left.count) where
-      pub no_right : s.right.count ≤ j → Moves T items s at Both (Err (NoFormula at))
-      no_right k = (rw (formula_at_lem T items s good Left i h, no_formula_at Right j k), refl)
+    module _ (few_left : u < s.left.count) where
+      here : i < s.left.count
+      here = omega arith
 
-      module _ (k : j < s.right.count) where
+      pub no_right : s.right.count ≤ v → Moves T items s at Both (Err (NoFormula at))
+      no_right k = (rw (formula_at_lem T items s good Left i here, no_formula_at Right j (omega arith)), refl)
+
+      -- the names read are those at the places
+      module _ (few_right : v < s.right.count) where
+        there : j < s.right.count
+        there = omega arith
+
         abbrev left : ℕ
         left = name_at Left i (view s items)
 
         abbrev right : ℕ
         right = name_at Right j (view s items)
 
+        name_left : get_or items u 0 ≡ left
+        name_left = rw read_left (slot_name T items s good Left i here)
+
+        name_right : get_or items (s.left.count + v) 0 ≡ right
+        name_right = rw read_right (slot_name T items s good Right j there)
+
         not_equal : (formula_in T left ≡ formula_in T right → Letter (formula_in T left)) → Moves T items s at Both (Err (NotEqual at))
-        not_equal f = (rw (formula_at_lem T items s good Left i h, formula_at_lem T items s good Right j k) (equals_not (formula_in T left) (formula_in T right) f), refl)
+        not_equal f = (rw (formula_at_lem T items s good Left i here, formula_at_lem T items s good Right j there) (equals_not (formula_in T left) (formula_in T right) f), refl)
 
-        pub letter_paired : left < LETTERS → Moves T items s at Both (Err (NotEqual at))
-        letter_paired l = not_equal (λ e. rw (letter_at Left i h l) tt)
+        pub letter_paired : get_or items u 0 < LETTERS → Moves T items s at Both (Err (NotEqual at))
+        letter_paired l = not_equal (λ e. rw (letter_at Left i here (omega (arith, name_left))) tt)
 
-        pub names_differ : (left ≡ right → ⊥) → Moves T items s at Both (Err (NotEqual at))
+        pub names_differ : (get_or items u 0 ≡ get_or items (s.left.count + v) 0 → ⊥) → Moves T items s at Both (Err (NotEqual at))
         names_differ z =
-            not_equal (λ e. absurd (z (same_name T good.nodes good.used good.few good.distinct left right (known_at T items s good Left i h) (known_at T items s good Right j k) e)))
+            let same = same_name T good.nodes good.used good.few good.distinct left right (known_at T items s good Left i here) (known_at T items s good Right j there) in
+            not_equal (λ e. absurd (z (name_left ∙ same e ∙ sym name_right)))
 
-        pub equal_paired : LETTERS ≤ left → left ≡ right → Moves T items s at Both (Ok Paired)
+        pub equal_paired : LETTERS ≤ get_or items u 0 → get_or items u 0 ≡ get_or items (s.left.count + v) 0 → Moves T items s at Both (Ok Paired)
         equal_paired c e =
-            let p = equal_formulas T items s good i j (record { left = inside T items s good Left i h; right = inside T items s good Right j k; compound = c; equal = e }) in
+            let p = equal_formulas T items s good i j (record { left = inside T items s good Left i here; right = inside T items s good Right j there; compound = omega (arith, name_left); equal = sym name_left ∙ e ∙ name_right }) in
             rw (p.lefts, p.rights) (pairs_whole p.x)
 
--- ---- a command by its byte
+  -- ---- 41 at a letter
 
--- the command that an order stands for
-abbrev Means : Maybe Command → Option Order → Type 0
-Means o None = o ≡ none
-Means o (Some Close) = o ≡ some CLOSE
-Means o (Some Pair) = o ≡ some PAIR
-Means o (Some (Reduction-of t k)) = o ≡ some (REDUCE t (connective_of k))
-
-means : (o : Maybe Command) (r : Option Order) → order_of o ≡ r → Means o r
-means o r e = subst (Means o) e (go o)
-  where
-    go : (o : Maybe Command) → Means o (order_of o)
-    go none = refl
-    go (some CLOSE) = refl
-    go (some PAIR) = refl
-    go (some (REDUCE t k)) = ap (λ (j : Connective). some (REDUCE t j)) (sym (coded_is k))
-
-module _ (T items : List ℕ) (s : Running) (i at b : ℕ) (n : Maybe ℕ) where
   abbrev S : Sequent
   S = sequent_of T items s
 
-  closing_bits : Good T items s → (bit i s.left.mask && bit i s.right.mask) ≡ (among i (letters S.on_left) && among i (letters S.on_right))
-  closing_bits good = rw (masks_state T items s good Left, masks_state T items s good Right, bit_state i (letters S.on_left), bit_state i (letters S.on_right))
+  module _ (i at : ℕ) (n : Maybe ℕ) {o : Maybe Command} (e : o ≡ some CLOSE) {r : Bool} (h : r ≡ (bit i s.left.mask && bit i s.right.mask)) where
+    closing : obey o i n S ≡ choose r (waiting []) (fault NOT_CLOSED)
+    closing = rw (e, h, masks_state T items s good Left, masks_state T items s good Right, bit_state i (letters S.on_left), bit_state i (letters S.on_right))
 
-  obey_close : (r : Bool) → Good T items s → order_of (order b) ≡ Some Close → r ≡ (bit i s.left.mask && bit i s.right.mask) → obey (order b) i n S ≡ choose r (waiting []) (fault NOT_CLOSED)
-  obey_close r good e h = rw (means (order b) (Some Close) e, h, closing_bits good)
+    pub closed : r ≡ true → Moves T items s at (obey o i n S) (Ok Closed)
+    closed y = closing ∙ rw y
 
-  pub closed : (r : Bool) → Good T items s → order_of (order b) ≡ Some Close → r ≡ (bit i s.left.mask && bit i s.right.mask) → r ≡ true → Moves T items s at (obey (order b) i n S) (Ok Closed)
-  closed r good e h y = obey_close r good e h ∙ rw y
-
-  pub not_closed : (r : Bool) → Good T items s → order_of (order b) ≡ Some Close → r ≡ (bit i s.left.mask && bit i s.right.mask) → r ≡ false
-      → Moves T items s at (obey (order b) i n S) (Err (NotClosed at))
-  not_closed r good e h z = (obey_close r good e h ∙ rw z, refl)
-
-  pub unknown : order_of (order b) ≡ None → Moves T items s at (obey (order b) i n S) (Err (UnknownCommand at))
-  unknown e = (rw (means (order b) None e), refl)
-
-  pub pairing : (m : Result Move Fault) → order_of (order b) ≡ Some Pair → Moves T items s at (obey (some PAIR) i n S) m → Moves T items s at (obey (order b) i n S) m
-  pairing m e f = rw (means (order b) (Some Pair) e) f
-
-  pub reduction : (t : Side) (k : Named) (m : Result Move Fault) → order_of (order b) ≡ Some (Reduction-of t k)
-      → Moves T items s at (named t i (connective_of k) S (get_elem? (on_side t S) i)) m → Moves T items s at (obey (order b) i n S) m
-  reduction t k m e f = rw (means (order b) (Some (Reduction-of t k)) e) f
+    pub not_closed : r ≡ false → Moves T items s at (obey o i n S) (Err (NotClosed at))
+    not_closed z = (closing ∙ rw z, refl)

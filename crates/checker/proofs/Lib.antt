@@ -1,5 +1,5 @@
 -- The laws behind the functions' proofs. Assumes nothing.
-pub mod Orders
+pub mod Masks
 pub mod Commands
 pub mod Walking
 pub mod Answers

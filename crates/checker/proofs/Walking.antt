@@ -4,7 +4,7 @@ use mathlib.Core.Path.{◌≡◌, refl, sym, ap, ◌∙◌, subst}
 use mathlib.Core.Option.{Option, none, some}
 use Rattle.std.specs.Prelude.{Result, Ok, Err}
 use mathlib.Core.List.{List, [], ◌∷◌, ◌++◌, map}
-use Prim.Native.Nat.{ℕ, zero, suc, ◌+◌, ◌-◌, ◌≤◌, ◌<◌}
+use Prim.Native.Nat.{ℕ, zero, suc, ◌+◌, ◌-◌, ◌*◌, ◌≤◌, ◌<◌}
 use native.Mathlib.Omega.{arith}
 use native.Mathlib.Decide.{dec_lt}
 use lib.ListN.{length, take, drop, get_or, get_elem?, length-drop, take-append-drop}
@@ -16,13 +16,14 @@ use Rattle.calculus.specs.Derivation.{Move as Said, fault, waiting, shut, obey, 
 use Rattle.calculus.proofs.Folds.{fold_append, each_at}
 use Rattle.calculus.proofs.Derivations.{Obeyed, obeyed}
 use Rattle.sequent.specs.declared.Placing.{Placing}
+use Rattle.sequent.specs.declared.Counted.{Counted}
 use Rattle.sequent.specs.declared.Running.{Running}
 use Rattle.sequent.specs.declared.Reduction.{Reduction}
 use Rattle.sequent.specs.View.{view, sequent_of, Good}
-use Rattle.sequent.specs.Compounds.{compound_at, rule_for, premise_by, Reducible}
+use Rattle.sequent.specs.Compounds.{compound_at, rule_for, premises_at, premise_by, Reducible}
 use Rattle.sequent.proofs.Lists.{each_unmap}
 use Rattle.sequent.proofs.Placings.{nowhere, next, next_ends, Summed, sum_starts, sum_goes, sum_ends}
-use Rattle.sequent.proofs.Goods.{stands, premises_made}
+use Rattle.sequent.proofs.Goods.{stands, premises_made, few, makes_next}
 use Rattle.checker.specs.declared.Fault.{Fault}
 use Rattle.checker.specs.declared.Fault.TheVariants.{CutShort}
 use Rattle.checker.specs.Answers.{fault_number, fault_place}
@@ -121,48 +122,66 @@ pub record Ahead (d : List ℕ) (F : Placing → Sequent) (r : List Placing) (o 
   pub inside : e ≤ length d
   pub walks : (Rs : List Sequent) → check (drop o d) (map F r ++ Rs) o ≡ check (drop e d) (map F (drop j r) ++ Rs) e
 
-module _ (d : List ℕ) (F : Placing → Sequent) (r : List Placing) (o : ℕ) where
-  pub ahead_starts : o ≤ length d → Ahead d F r o 0 o 0
-  ahead_starts h = record { sum = sum_starts F r; inside = h; walks = λ Rs. refl }
+pub ahead_starts : (d : List ℕ) (F : Placing → Sequent) (r : List Placing) (o : ℕ) → o ≤ length d → Ahead d F r o 0 o 0
+ahead_starts d F r o h = record { sum = sum_starts F r; inside = h; walks = λ Rs. refl }
 
-  module _ (j e n : ℕ) (a : Ahead d F r o j e n) where
-    module _ (h : j < length r) where
-      abbrev P : Sequent
-      P = F (get_or r j nowhere)
+-- the premises of a reduction
+module _ {T items : List ℕ} {s : Running} (good : Good T items s) {r : Reduction} (can : Reducible T items s r) {rule : List Placing} (by : rule ≡ rule_for r) where
+  -- the next one leaves room again
+  pub roomy_next : Roomy (sequent_of T items s) → (j : ℕ) → j < length rule → Roomy (premise_by T items s r (get_or rule j nowhere))
+  roomy_next roomy j h =
+      each_at (λ p. Roomy (premise_by T items s r p)) rule j nowhere
+      (each_unmap (premise_by T items s r) Roomy rule (subst (Each Roomy) (sym (premises_made T items s good r can rule by))
+      (roomy_premises r.place.side r.place.at (compound_at T r.place.side r.place.at (view s items)) (sequent_of T items s) (stands T items s good r.place.side r.place.at can.inside can.compound) roomy))) h
 
-      walks_next : (Rs : List Sequent) → check (drop o d) (map F r ++ Rs) o ≡ check (drop e d) (P ∷ map F (drop (j + 1) r) ++ Rs) e
-      walks_next Rs = a.walks Rs ∙ ap (λ (ps : List Placing). check (drop e d) (map F ps ++ Rs) e) (next r j h)
+  module _ {d : List ℕ} {o j e n : ℕ} (a : Ahead d (premise_by T items s r) rule o j e n) where
+    abbrev F : Placing → Sequent
+    F = premise_by T items s r
 
-      pub ahead_goes : (e' k : ℕ) → Walks d (P ∷ []) e (Ok e') → k ≡ size P → size P ≤ ROOM → Ahead d F r o (j + 1) e' (n + k)
-      ahead_goes e' k w m l =
-          record {
-            sum = sum_goes F r j n a.sum h k m l;
-            inside = w.0;
-            walks = λ Rs. walks_next Rs ∙ w.1 (map F (drop (j + 1) r) ++ Rs);
-          }
+    all_made : {t : Counted (Result ℕ Fault)} → Tallied d (map F rule) o t → Tallied d (premises_at T items s r) o t
+    all_made {t} = subst (λ (Ps : List Sequent). Tallied d Ps o t) (premises_made T items s good r can rule by)
 
-      pub ahead_stops : (f : Fault) (k : ℕ) → Walks d (P ∷ []) e (Err f) → k ≡ size P → size P ≤ ROOM → Tallied d (map F r) o (record { walked = Err f; stores = n + k })
-      ahead_stops f k w m l =
-          record {
-            walks = λ Rs. walks_next Rs ∙ w (map F (drop (j + 1) r) ++ Rs);
-            stores = (
-              j + 1,
-              omega arith,
-              omega (arith, (sum_goes F r j n a.sum h k m l).stores, stores_split (j + 1) (map F r), ap (fold SUM size) (drop_map F (j + 1) r)),
-            );
-          }
-
-    pub ahead_ends : length r ≤ j → Tallied d (map F r) o (record { walked = Ok e; stores = n })
+    pub ahead_ends : length rule ≤ j → Tallied d (premises_at T items s r) o (record { value = Ok e; stores = n })
     ahead_ends h =
-        record {
-          walks = (a.inside, λ Rs. a.walks Rs ∙ ap (λ (ps : List Placing). check (drop e d) (map F ps ++ Rs) e) (next_ends r j h));
-          stores = sum_ends F r j n a.sum h;
-        }
+        all_made (record {
+          walks = (a.inside, λ Rs. a.walks Rs ∙ ap (λ (ps : List Placing). check (drop e d) (map F ps ++ Rs) e) (next_ends rule j h));
+          stores = sum_ends F rule j n a.sum h;
+        })
 
--- the next premise leaves room again
-pub roomy_next : (T items : List ℕ) (s : Running) (good : Good T items s) → Roomy (sequent_of T items s) → (r : Reduction) (can : Reducible T items s r)
-    → (rule : List Placing) (e : rule ≡ rule_for r) (j : ℕ) → j < length rule → Roomy (premise_by T items s r (get_or rule j nowhere))
-roomy_next T items s good roomy r can rule e j h =
-    each_at (λ p. Roomy (premise_by T items s r p)) rule j nowhere
-    (each_unmap (premise_by T items s r) Roomy rule (subst (Each Roomy) (sym (premises_made T items s good r can rule e))
-    (roomy_premises r.place.side r.place.at (compound_at T r.place.side r.place.at (view s items)) (sequent_of T items s) (stands T items s good r.place.side r.place.at can.inside can.compound) roomy))) h
+    module _ (h : j < length rule) where
+      abbrev P : Sequent
+      P = F (get_or rule j nowhere)
+
+      small : size P ≤ ROOM
+      small = (makes_next T items s good r can rule by j h).small
+
+      module _ (w : Counted (Result ℕ Fault)) (walked : Walks d (P ∷ []) e w.value × (w.stores ≡ size P)) where
+        pub stores_fit : n + w.stores ≤ 2 * ROOM
+        stores_fit = omega (arith, walked.1, small, a.sum.small, few T items s good r can rule by)
+
+        sum_next : Summed F rule (j + 1) (n + w.stores)
+        sum_next = sum_goes F rule j n a.sum h w.stores walked.1 small
+
+        walks_next : (Rs : List Sequent) → check (drop o d) (map F rule ++ Rs) o ≡ check (drop e d) (P ∷ map F (drop (j + 1) rule) ++ Rs) e
+        walks_next Rs = a.walks Rs ∙ ap (λ (ps : List Placing). check (drop e d) (map F ps ++ Rs) e) (next rule j h)
+
+        pub ahead_goes : (e' : ℕ) → w.value ≡ Ok e' → Ahead d F rule o (j + 1) e' (n + w.stores)
+        ahead_goes e' is =
+            let k = rw is at walked.0 in
+            record {
+              sum = sum_next;
+              inside = k.0;
+              walks = λ Rs. walks_next Rs ∙ k.1 (map F (drop (j + 1) rule) ++ Rs);
+            }
+
+        pub ahead_stops : (f : Fault) → w.value ≡ Err f → Tallied d (premises_at T items s r) o (record { value = Err f; stores = n + w.stores })
+        ahead_stops f is =
+            let k = rw is at walked.0 in
+            all_made (record {
+              walks = λ Rs. walks_next Rs ∙ k (map F (drop (j + 1) rule) ++ Rs);
+              stores = (
+                j + 1,
+                omega arith,
+                omega (arith, sum_next.stores, stores_split (j + 1) (map F rule), ap (fold SUM size) (drop_map F (j + 1) rule)),
+              );
+            })

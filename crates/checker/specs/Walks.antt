@@ -1,28 +1,16 @@
 -- The checker's steps, each by the documents' definitions.
-use Rattle.std.specs.Prelude.{◌≡◌, List, [], ◌++◌, ℕ, ◌+◌, ◌≤◌, length, take, drop, Option, Some, None, Result, Ok, Err}
-use Rattle.std.proofs.Math.Option.{Option as Maybe, none, some}
+use Rattle.std.specs.Prelude.{◌≡◌, List, [], ◌++◌, ℕ, ◌+◌, ◌≤◌, length, take, drop, Result, Ok, Err}
 use Rattle.calculus.specs.Fold.{fold, SUM}
 use Rattle.calculus.specs.Limits.{ROOM}
 use Rattle.calculus.specs.Syntax.{Sequent, c, size}
-use Rattle.calculus.specs.Derivation.{Order as Command, CLOSE, PAIR, REDUCE, Move as Said, fault, waiting, shut, faulty, check}
-use Rattle.question.specs.Connectives.{coded}
+use Rattle.calculus.specs.Derivation.{Move as Said, fault, waiting, shut, faulty, check}
+use Rattle.sequent.specs.declared.Counted.{Counted}
 use Rattle.sequent.specs.declared.Running.{Running}
 use Rattle.sequent.specs.Compounds.{premises_at, Reducible}
 use Rattle.checker.specs.Answers.{fault_number, fault_place}
 use Rattle.checker.specs.declared.Fault.{Fault}
-use Rattle.checker.specs.declared.Order.{Order}
-use Rattle.checker.specs.declared.Order.TheVariants.{Close, Pair, Reduce as Reduction-of}
 use Rattle.checker.specs.declared.Move.{Move}
 use Rattle.checker.specs.declared.Move.TheVariants.{Closed, Paired, Reduce}
-use Rattle.checker.specs.declared.Tally.{Tally}
-
--- ---- a command
-
-abbrev pub order_of : Maybe Command → Option Order
-order_of none = None
-order_of (some CLOSE) = Some Close
-order_of (some PAIR) = Some Pair
-order_of (some (REDUCE s k)) = Some (Reduction-of s (coded k))
 
 -- ---- what a command says
 
@@ -49,6 +37,6 @@ Made Ps k (Ok e) = k ≡ fold SUM size Ps
 Made Ps k (Err f) = (n : ℕ) × (1 ≤ n) × (k ≡ fold SUM size (take n Ps))
 
 -- premises walked, and the stores made for them: their formulas together
-pub record Tallied (d : List ℕ) (Ps : List Sequent) (at : ℕ) (t : Tally) : Type 0 where
-  pub walks : Walks d Ps at t.walked
-  pub stores : Made Ps t.stores t.walked
+pub record Tallied (d : List ℕ) (Ps : List Sequent) (at : ℕ) (t : Counted (Result ℕ Fault)) : Type 0 where
+  pub walks : Walks d Ps at t.value
+  pub stores : Made Ps t.stores t.value

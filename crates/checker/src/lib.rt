@@ -15,7 +15,7 @@ ghost use Rattle.sequent.specs.View.{Good, sequent_of};
 ghost use Rattle.sequent.specs.Compounds.{premises_at, premise_by, Reducible, Makes};
 ghost use Rattle.checker.specs.Answers.{fault_number, fault_place, check_of};
 ghost use Rattle.checker.specs.declared.NotPassed.TheVariants.{Refused, Faulty};
-ghost use Rattle.checker.specs.Walks.{order_of, Moves, Roomy, Walks, Tallied};
+ghost use Rattle.checker.specs.Walks.{Moves, Roomy, Walks, Tallied};
 
 use calculus::Side;
 use names::Lists;

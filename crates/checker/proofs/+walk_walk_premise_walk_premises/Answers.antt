@@ -3,9 +3,9 @@ use Rattle.std.specs.Prelude.{Err}
 use Rattle.calculus.specs.Syntax.{Sequent, c as connectives}
 use Rattle.sequent.specs.View.{view, sequent_of}
 use Rattle.sequent.specs.Compounds.{premise_by, compound_at}
-use Rattle.sequent.proofs.Goods.{premises_made, few, makes_next, premise_asks, made_is, made_good, made_stores, command_made}
+use Rattle.sequent.proofs.Goods.{makes_next, premise_asks, made_is, made_good, made_stores, command_made}
 use Rattle.checker.specs.Walks.{Roomy, Walks}
-use Rattle.checker.proofs.Walking.{cut_short, walk_stopped, walk_closed, walk_paired, walk_reduced, ahead_starts, ahead_goes, ahead_stops, ahead_ends, roomy_next}
+use Rattle.checker.proofs.Walking.{cut_short, walk_stopped, walk_closed, walk_paired, walk_reduced, ahead_starts, roomy_next, stores_fit, ahead_goes, ahead_stops, ahead_ends}
 use Rattle.checker.proofs.+walk_walk_premise_walk_premises.Goals as goal
 
 -- ---- one command
@@ -37,7 +37,7 @@ walk-returns-in-Reduce t c =
     let a = c.args in
     let w = c.walk_premises in
     let m = rw c.in-Reduce.is at c.in_ok-next.ensures in
-    walk_reduced a.d.now a.at (omega (arith, c.if-d-at-lt2.false)) (sequent_of a.t.nodes.now a.t.items.now a.s) _ m.0 w.result.walked w.ensures.walks
+    walk_reduced a.d.now a.at (omega (arith, c.if-d-at-lt2.false)) (sequent_of a.t.nodes.now a.t.items.now a.s) _ m.0 w.result.value w.ensures.walks
 
 -- ---- a premise, made and walked
 
@@ -79,8 +79,8 @@ walk_premises-loop-p-init t c =
     let a = c.args in
     ahead_starts a.d.now (premise_by a.t.nodes.now a.t.items.now a.s a.r) c.rule-rule.result.now a.at c.requires.3
 
-pub walk_premises-walk_premise-tally-requires : goal.walk_premises-walk_premise-tally-requires
-walk_premises-walk_premise-tally-requires t c =
+pub walk_premises-walk_premise-m-requires : goal.walk_premises-walk_premise-m-requires
+walk_premises-walk_premise-m-requires t c =
     let a = c.args in
     let h = c.requires in
     let l = c.loop-p in
@@ -88,48 +88,25 @@ walk_premises-walk_premise-tally-requires t c =
       omega (arith, c.decreases),
       (
         makes_next a.t.nodes.now a.t.items.now a.s h.0 a.r h.2 u.result.now u.ensures l.p-index c.loop-p-test.true,
-        roomy_next a.t.nodes.now a.t.items.now a.s h.0 h.1 a.r h.2 u.result.now u.ensures l.p-index c.loop-p-test.true,
+        roomy_next h.0 h.2 u.ensures h.1 l.p-index c.loop-p-test.true,
         omega (arith, l.invariant.inside),
       ),
     )
 
 pub walk_premises-overflow_add-stores : goal.walk_premises-overflow_add-stores
 walk_premises-overflow_add-stores t c =
-    let a = c.args in
     let h = c.requires in
-    let l = c.loop-p in
-    let u = c.rule-rule in
-    let m = makes_next a.t.nodes.now a.t.items.now a.s h.0 a.r h.2 u.result.now u.ensures l.p-index c.loop-p-test.true in
-    omega (arith, c.walk_premise-tally.ensures.1, m.small, c.loop-p-test.true, few a.t.nodes.now a.t.items.now a.s h.0 a.r h.2 u.result.now u.ensures, l.invariant.sum.small)
+    omega (arith, stores_fit h.0 h.2 c.rule-rule.ensures c.loop-p.invariant c.loop-p-test.true c.walk_premise-m.result c.walk_premise-m.ensures)
 
 pub walk_premises-returns-in-Err : goal.walk_premises-returns-in-Err
 walk_premises-returns-in-Err t c =
-    let a = c.args in
     let h = c.requires in
-    let l = c.loop-p in
-    let u = c.rule-rule in
-    let w = c.walk_premise-tally in
-    let m = makes_next a.t.nodes.now a.t.items.now a.s h.0 a.r h.2 u.result.now u.ensures l.p-index c.loop-p-test.true in
-    rw (← premises_made a.t.nodes.now a.t.items.now a.s h.0 a.r h.2 u.result.now u.ensures)
-    (ahead_stops a.d.now (premise_by a.t.nodes.now a.t.items.now a.s a.r) u.result.now a.at l.p-index l.end l.stores l.invariant c.loop-p-test.true
-    c.in-Err.f w.result.stores (rw c.in-Err.is at w.ensures.0) w.ensures.1 m.small)
+    ahead_stops h.0 h.2 c.rule-rule.ensures c.loop-p.invariant c.loop-p-test.true c.walk_premise-m.result c.walk_premise-m.ensures c.in-Err.f c.in-Err.is
 
 pub walk_premises-loop-p-preserved : goal.walk_premises-loop-p-preserved
 walk_premises-loop-p-preserved t c =
-    let a = c.args in
     let h = c.requires in
-    let l = c.loop-p in
-    let u = c.rule-rule in
-    let w = c.walk_premise-tally in
-    let m = makes_next a.t.nodes.now a.t.items.now a.s h.0 a.r h.2 u.result.now u.ensures l.p-index c.loop-p-test.true in
-    ahead_goes a.d.now (premise_by a.t.nodes.now a.t.items.now a.s a.r) u.result.now a.at l.p-index l.end l.stores l.invariant c.loop-p-test.true
-    c.in-Ok.e w.result.stores (rw c.in-Ok.is at w.ensures.0) w.ensures.1 m.small
+    ahead_goes h.0 h.2 c.rule-rule.ensures c.loop-p.invariant c.loop-p-test.true c.walk_premise-m.result c.walk_premise-m.ensures c.in-Ok.e c.in-Ok.is
 
 pub walk_premises-returns : goal.walk_premises-returns
-walk_premises-returns t c =
-    let a = c.args in
-    let h = c.requires in
-    let l = c.loop-p in
-    let u = c.rule-rule in
-    rw (← premises_made a.t.nodes.now a.t.items.now a.s h.0 a.r h.2 u.result.now u.ensures)
-    (ahead_ends a.d.now (premise_by a.t.nodes.now a.t.items.now a.s a.r) u.result.now a.at l.p-index l.end l.stores l.invariant c.loop-p-test.false)
+walk_premises-returns t c = let h = c.requires in ahead_ends h.0 h.2 c.rule-rule.ensures c.loop-p.invariant c.loop-p-test.false

@@ -1,5 +1,5 @@
 use Rattle.std.proofs.Common.{sym}
-use Rattle.checker.proofs.Orders.{bit_shift, bit_high}
+use Rattle.checker.proofs.Masks.{bit_shift, bit_high}
 use Rattle.checker.proofs.in_mask.Goals as goal
 
 pub returns-then-letter-ge-LETTERS : goal.returns-then-letter-ge-LETTERS
