@@ -32,8 +32,8 @@ pub struct Named {
     pub end: usize,
 }
 
-// The places filled so far, the letters and the compounds of the side that is being filled, the position behind its formulas so
-// far and the number of the next node. The lists themselves are lent (no heap), so what is in use of them is counted here.
+// The places filled so far, the letters and the compounds of the side that is being filled, and the position behind its formulas
+// so far. The list of places is lent (no heap), so how many are in use is counted here.
 #[derive(Clone, Copy)]
 pub struct Loaded {
     pub places: usize,
@@ -42,7 +42,7 @@ pub struct Loaded {
     pub end: usize,
 }
 
-// Room for the nodes of a question's compounds and the names of its formulas, none of them in use at first.
+// Room for the nodes of a question's compounds and the names of its formulas.
 #[derive(Drop)]
 pub struct Lists {
     pub numbering: Numbering,
@@ -187,6 +187,7 @@ pub fn root(q: Question<'_>, lists: &mut Lists) -> Running
         × (sequent_of lists.new.nodes lists.new.items result ≡ question q.entry.bytes.now) }
 {
     let numbering = &mut lists.numbering;
+    numbering.count = 0;
     let items = &mut lists.items;
     let l = load(q.left(), numbering, items, 0);
     let r = load(q.right(l.end), numbering, items, l.places);
