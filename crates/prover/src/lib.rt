@@ -38,7 +38,7 @@ pub enum Finding {
 }
 
 // How many parts each premise of a reduction places, on the left and on the right: a digit for each connective, at its command.
-// Read off the table of rules, the inner step is no longer part of the run, which then takes 1.2 to 1.5 times as long.
+// Read off the table of rules, `decide` takes 1.1 to 1.2 times as long, 1.15 to 1.25 of what it took.
 const LEFT: u32 = 0x2_1_1_2_1_0_0;
 
 const RIGHT: u32 = 0x2_2_2_1_1_0_0;

@@ -377,7 +377,7 @@ impl Walk {
 }
 
 // A formula is the question's bytes and a position, here and in the crates above. In a struct of both, with `Well` as its ghost
-// field, each part would be put in to be taken out again, since walks hand positions on, and the width took 1.06 to 1.20 times
+// field, each part would be put in to be taken out again, since walks hand positions on, and the width took 1.03 to 1.13 times
 // as long.
 
 // The position behind n formulas that stand one after the other from a position on.

@@ -58,7 +58,7 @@ pub struct Running {
 
 // The nodes of a question's compounds and the names of a sequent's formulas. The running sequent stays beside them, and so what
 // holds of all three (`Good`, `Clear`, `Roomy`, `Makes`, at most so many connectives) stays in clauses, here and in the crates
-// above: with the three in one struct `decide` takes 1.10 to 1.24 times as long.
+// above: with the three in one struct `decide` takes 1.08 times as long on small questions, 1.10 of what it took.
 #[derive(Clone, Copy)]
 pub struct Names<'a> {
     pub nodes: &'a [u32; ALL_CONNECTIVES],
@@ -244,7 +244,7 @@ impl Pass {
 // ---- the letters and the compounds of a premise's parts
 
 // The bit of a letter; none for a compound. Letters and compounds are two sets, so these stay two functions (decision 64): with
-// one for both bits `decide` took 1.02 to 1.10 times as long when it was tried.
+// one for both bits `decide` took 1.06 to 1.09 times as long, 1.10 of what it took.
 pub fn letter_bit(name: u8) -> u64
     ensures { result ≡ bit_of name }
 {
@@ -456,7 +456,7 @@ impl Running {
     }
 
     // The first formula with a connective, the left side before the right, where there is none before a place of the list. It
-    // counts the places: over the slice, by `position` or `enumerate`, `decide` takes 1.25 to 1.55 times as long.
+    // counts the places: over the slice, by `position`, `decide` takes 1.07 to 1.14 times as long, 1.17 of what it took.
     pub fn first_compound(self, items: &[u8; ROOM], from: usize) -> Option<Place>
         requires { (self.left.count + self.right.count ≤ Limits.ROOM) × Clear from items.now self }
         ensures { Found (view self items.now) result }

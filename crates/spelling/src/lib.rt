@@ -18,7 +18,7 @@ use calculus::Side;
 use question::{ALL_FORMULAS, Formulas, Question, Refusal};
 
 // Where a formula is among others that ascend, or else where it belongs. From the front: by halves (`binary_search`) spelling
-// took 1.3 times as long where sides have many formulas.
+// took 1.2 times as long where sides have many formulas.
 fn spot_of(items: &[&[u8]], x: &[u8]) -> Result<usize, usize>
     ensures { let old = map (λ f. f.now) items.now in let new = insert (λ l. l) x.now old in MatchResult result
         (λ i. new ≡ old)
