@@ -327,6 +327,13 @@ impl<'a> Formulas<'a> {
     {
         usize::from(self.q.bytes[self.start - 1])
     }
+
+    // A set with their letters.
+    pub fn letters(self, set: u64) -> u64
+        ensures { Marks (on_side self.entry.side (question self.entry.q.bytes.now)) set result }
+    {
+        letters(self.q.bytes, self.start, self.count(), set)
+    }
 }
 
 // A walk over commands: the position of the next, and the formulas due from there on. It goes from letter to letter, since what
