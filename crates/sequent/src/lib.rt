@@ -49,7 +49,8 @@ impl Half {
 
 // The names of the formulas, the left side's and then the right side's, are lent beside it: a letter is named by itself, a
 // compound by its node, above the letters, and equal formulas have one name. That the formulas fit the room is asked by the
-// functions that need it: a ghost field would ask it of `count` and `start` too.
+// functions that need it: a ghost field would ask it of `count` and `start` too. A struct of its own and no `Pair<Half>`, since a
+// type of another crate can have no methods here.
 #[derive(Clone, Copy)]
 pub struct Running {
     pub left: Half,
@@ -80,7 +81,8 @@ struct Parts {
     g: u8,
 }
 
-// A side and a place of it.
+// A side and a place of it. That a formula stands there is asked where it is used: a type that says so would hold the running
+// sequent once more.
 #[derive(Clone, Copy)]
 pub struct Place {
     pub side: Side,
