@@ -100,8 +100,8 @@ fn byte_at(q: &[u8], at: usize) -> Result<u8, Refusal>
     q.get(at).copied().ok_or(Refusal::Cut(at))
 }
 
-// Where the reader is: the connectives so far, the place of the next byte, the formulas due there, and how many sides' commands are
-// to come. With the side that is next as an `Option`, reading took 1.12 to 1.14 times as long. The bytes and `Standing` stay
+// Where the reader is: the connectives so far, the place of the next byte, the formulas due there, and how many sides' commands
+// are to come. With the side that is next as an `Option`, reading took 1.12 to 1.14 times as long. The bytes and `Standing` stay
 // outside: no struct with a ghost field is made by `..self`, so that each step would write out all fields.
 #[derive(Clone, Copy)]
 pub struct Cursor {

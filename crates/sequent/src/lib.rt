@@ -47,10 +47,10 @@ impl Half {
     }
 }
 
-// The names of the formulas, the left side's and then the right side's, are lent beside it: a letter is named by itself, a
-// compound by its node, above the letters, and equal formulas have one name. That the formulas fit the room is asked by the
-// functions that need it: a ghost field would ask it of `count` and `start` too. A struct of its own and no `Pair<Half>`, since a
-// type of another crate can have no methods here.
+// A running sequent. The names of its formulas, the left side's and then the right side's, are lent beside it: a letter is named
+// by itself, a compound by its node, above the letters, and equal formulas have one name. That the formulas fit the room is asked
+// by the functions that need it: a ghost field would ask it of `count` and `start` too. A struct of its own and no `Pair<Half>`,
+// since a type of another crate can have no methods here.
 #[derive(Clone, Copy)]
 pub struct Running {
     pub left: Half,
@@ -425,8 +425,8 @@ impl Running {
         }
     }
 
-    // A premise of a reduction: the names of its two parts go where p says. The list is lent: with list and running sequent in one
-    // value, `derive` takes 1.07 times as long, 1.10 of what it took. Run, writer and checker each go on from a premise by
+    // A premise of a reduction: the names of its two parts go where p says. The list is lent: with list and running sequent in
+    // one value, `derive` takes 1.07 times as long, 1.10 of what it took. Run, writer and checker each go on from a premise by
     // themselves: a closure in a cycle of calls has to state all that the call inside states, so that one function for the three
     // would say each contract once more.
     pub fn premise(
