@@ -1,6 +1,8 @@
 // Document 01's case 12, the smallest examples of its numbers 1 to 7, and the formulas of case 4's question.
 #![tactic(auto)]
 
+ghost use Rattle.std.specs.Prelude.{◌≤◌};
+
 use calculus::Side;
 use print::{Hexadecimal, Refused};
 use question::Question;
@@ -69,24 +71,20 @@ fn many_connectives(rt: &impl Print) -> io::Result<()> {
     read(rt, &ands)
 }
 
-// A letter on the right under 48 NOT is read, and under 49 it is not.
+// A letter on the right under NOT, so often that the question has N bytes.
+fn nots<const N: usize>(rt: &impl Print) -> io::Result<()>
+    requires { 6 ≤ N }
+{
+    let mut q = [2u8; N];
+    q[..4].copy_from_slice(b"\x10\x00\x20\x01");
+    q[N - 2..].copy_from_slice(b"\x01\x00");
+    read(rt, &q)
+}
+
+// Under 48 NOT it is read, and under 49 it is not.
 fn most_connectives(rt: &impl Print) -> io::Result<()> {
-    let mut q = [2u8; 54];
-    q[0] = 0x10;
-    q[1] = 0;
-    q[2] = 0x20;
-    q[3] = 1;
-    q[52] = 1;
-    q[53] = 0;
-    read(rt, &q)?;
-    let mut p = [2u8; 55];
-    p[0] = 0x10;
-    p[1] = 0;
-    p[2] = 0x20;
-    p[3] = 1;
-    p[53] = 1;
-    p[54] = 0;
-    read(rt, &p)
+    nots::<54>(rt)?;
+    nots::<55>(rt)
 }
 
 // 7: a byte behind the empty sequent.
