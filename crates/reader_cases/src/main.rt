@@ -75,10 +75,11 @@ fn many_connectives(rt: &impl Print) -> io::Result<()> {
 fn nots<const N: usize>(rt: &impl Print) -> io::Result<()>
     requires { 6 ≤ N }
 {
-    let mut q = [2u8; N];
+    let mut bytes = [2u8; N];
+    let q = &mut bytes[..];
     q[..4].copy_from_slice(b"\x10\x00\x20\x01");
     q[N - 2..].copy_from_slice(b"\x01\x00");
-    read(rt, &q)
+    read(rt, q)
 }
 
 // Under 48 NOT it is read, and under 49 it is not.
