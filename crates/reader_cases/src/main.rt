@@ -71,21 +71,21 @@ fn many_connectives(rt: &impl Print) -> io::Result<()> {
     read(rt, &ands)
 }
 
-// A letter on the right under NOT, so often that the question has N bytes.
-fn nots<const N: usize>(rt: &impl Print) -> io::Result<()>
-    requires { 6 ≤ N }
+// A letter on the right under NOT, so often that the question has n bytes.
+fn nots(rt: &impl Print, n: usize) -> io::Result<()>
+    requires { (6 ≤ n) × (n ≤ 55) }
 {
-    let mut bytes = [2u8; N];
-    let q = &mut bytes[..];
+    let mut bytes = [2u8; 55];
+    let q = &mut bytes[..n];
     q[..4].copy_from_slice(b"\x10\x00\x20\x01");
-    q[N - 2..].copy_from_slice(b"\x01\x00");
+    q[n - 2..].copy_from_slice(b"\x01\x00");
     read(rt, q)
 }
 
 // Under 48 NOT it is read, and under 49 it is not.
 fn most_connectives(rt: &impl Print) -> io::Result<()> {
-    nots::<54>(rt)?;
-    nots::<55>(rt)
+    nots(rt, 54)?;
+    nots(rt, 55)
 }
 
 // 7: a byte behind the empty sequent.
