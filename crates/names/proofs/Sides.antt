@@ -23,6 +23,7 @@ use Rattle.sequent.specs.declared.Running.{Running}
 use Rattle.sequent.specs.View.{view, set_of, sequent_of, letters_of, compounds_of, Masked, Good}
 use Rattle.sequent.proofs.Premises.{take_drop}
 use Rattle.sequent.proofs.Sets.{members}
+use Rattle.names.specs.declared.Numbering.{Numbering}
 use Rattle.names.specs.declared.Loaded.{Loaded}
 use Rattle.names.specs.Loads.{NamesAll, none_yet, Loads, Enters, before}
 use Rattle.names.proofs.Entering.{names_split, names_known, names_formulas}
@@ -75,23 +76,23 @@ whole_size S w = omega (arith, ones S.on_left, ones S.on_right, w.lefts, w.right
 -- ---- a side of an accepted question
 
 -- it has n formulas, and none of them has come
-pub record Starts (q T items : List ℕ) (start : Loaded) (n : ℕ) (u : Side) : Type 0 where
+pub record Starts (q : List ℕ) (a : Numbering) (items : List ℕ) (start : Loaded) (n : ℕ) (u : Side) : Type 0 where
   pub read : reading q ≡ accepted
   pub count : n ≡ length (on_side u (question q))
   pub begins : start.end ≡ side_start u (question q)
-  pub loads : Loads T items start.places start (before u (question q))
+  pub loads : Loads a items start.places start (before u (question q))
 
 -- its first i formulas have come
-pub record Filled (q old : List ℕ) (start : Loaded) (u : Side) (T items : List ℕ) (l : Loaded) (i : ℕ) : Type 0 where
+pub record Filled (q old : List ℕ) (start : Loaded) (u : Side) (a : Numbering) (items : List ℕ) (l : Loaded) (i : ℕ) : Type 0 where
   pub ends : l.end ≡ start_of u i (question q)
-  pub loads : Loads T items start.places l (up_to u i (question q))
+  pub loads : Loads a items start.places l (up_to u i (question q))
   pub kept : take start.places items ≡ take start.places old
 
-module _ (q T₀ old : List ℕ) (start : Loaded) (n : ℕ) (u : Side) (s : Starts q T₀ old start n u) where
+module _ (q : List ℕ) (T₀ : Numbering) (old : List ℕ) (start : Loaded) (n : ℕ) (u : Side) (s : Starts q T₀ old start n u) where
   pub filled_none : Filled q old start u T₀ old start 0
   filled_none = record { ends = s.begins ∙ sym (add-zero _); loads = rw (append-nil (before u (question q))) s.loads; kept = refl }
 
-  module _ (T items : List ℕ) (l : Loaded) (i : ℕ) (f : Filled q old start u T items l i) where
+  module _ (T : Numbering) (items : List ℕ) (l : Loaded) (i : ℕ) (f : Filled q old start u T items l i) where
     module _ (h : i < n) where
       inside : i < length (on_side u (question q))
       inside = omega (arith, s.count)
@@ -110,7 +111,7 @@ module _ (q T₀ old : List ℕ) (start : Loaded) (n : ℕ) (u : Side) (s : Star
             room = omega (arith, next_sum S u i inside (λ x. 1), whole_size S w, ones (up_to u i S));
           }
 
-      pub filled_next : (R new : List ℕ) (r : Loaded) → Loads R new start.places r (up_to u i (question q) ++ (formula_at q l.end ∷ []))
+      pub filled_next : (R : Numbering) (new : List ℕ) (r : Loaded) → Loads R new start.places r (up_to u i (question q) ++ (formula_at q l.end ∷ []))
           → take l.places new ≡ take l.places items → r.end ≡ end_of q l.end → Filled q old start u R new r (i + 1)
       filled_next R new r k t e =
           let S = question q in
@@ -133,8 +134,8 @@ module _ (q T₀ old : List ℕ) (start : Loaded) (n : ℕ) (u : Side) (s : Star
 -- ---- both sides
 
 -- the left side has come, and the right side is to be filled
-pub between : (T items : List ℕ) (first : ℕ) (l : Loaded) (xs : List Formula) (e : ℕ) → Loads T items first l xs
-    → Loads T items l.places (none_yet l.places e l.next) xs
+pub between : (T : Numbering) (items : List ℕ) (first : ℕ) (l : Loaded) (xs : List Formula) (e : ℕ) → Loads T items first l xs
+    → Loads T items l.places (none_yet l.places e) xs
 between T items first l xs e h =
     let n = slice_empty l.places items in
     record { size = h.size; room = h.room; nodes = h.nodes; few = h.few; count = h.count; names = h.names; mask = rw n refl; set = rw n refl; inside = omega arith }
@@ -142,9 +143,9 @@ between T items first l xs e h =
 abbrev running : Loaded → Loaded → Running
 running l r = record { left = record { count = l.places; mask = l.mask; set = l.set }; right = record { count = r.places - l.places; mask = r.mask; set = r.set } }
 
-module _ (S : Sequent) (w : Within S) (R old : List ℕ) (l : Loaded) (a : Loads R old 0 l S.on_left)
-    (T items : List ℕ) (r : Loaded) (b : Loads T items l.places r (S.on_left ++ S.on_right)) (k : take l.places items ≡ take l.places old) where
-  few : r.next ≤ CONNECTIVES
+module _ (S : Sequent) (w : Within S) (R : Numbering) (old : List ℕ) (l : Loaded) (a : Loads R old 0 l S.on_left)
+    (T : Numbering) (items : List ℕ) (r : Loaded) (b : Loads T items l.places r (S.on_left ++ S.on_right)) (k : take l.places items ≡ take l.places old) where
+  few : T.count ≤ CONNECTIVES
   few = omega (arith, b.few, fold_append SUM connectives S.on_left S.on_right, w.connectives)
 
   room : r.places ≤ 2 * FORMULAS
@@ -154,16 +155,16 @@ module _ (S : Sequent) (w : Within S) (R old : List ℕ) (l : Loaded) (a : Loads
   counted = omega (arith, b.inside)
 
   -- the names of the two sides
-  names : (t : Side) → NamesAll T r.next (on_side t (view (running l r) items)) (on_side t S)
+  names : (t : Side) → NamesAll T (on_side t (view (running l r) items)) (on_side t S)
   names t = go t
     where
       split : take r.places items ≡ take l.places items ++ take (r.places - l.places) (drop l.places items)
       split = ap (λ (n : ℕ). take n items) (sym counted) ∙ take-add l.places (r.places - l.places) items
 
-      both : NamesAll T r.next (take l.places items) S.on_left × NamesAll T r.next (take (r.places - l.places) (drop l.places items)) S.on_right
-      both = names_split T r.next (take l.places items) (take (r.places - l.places) (drop l.places items)) S.on_left S.on_right (length-take-le l.places items (omega (arith, b.inside, room, b.room)) ∙ a.count) (subst (λ (ds : List ℕ). NamesAll T r.next ds (S.on_left ++ S.on_right)) split b.names)
+      both : NamesAll T (take l.places items) S.on_left × NamesAll T (take (r.places - l.places) (drop l.places items)) S.on_right
+      both = names_split T (take l.places items) (take (r.places - l.places) (drop l.places items)) S.on_left S.on_right (length-take-le l.places items (omega (arith, b.inside, room, b.room)) ∙ a.count) (subst (λ (ds : List ℕ). NamesAll T ds (S.on_left ++ S.on_right)) split b.names)
 
-      go : (t : Side) → NamesAll T r.next (on_side t (view (running l r) items)) (on_side t S)
+      go : (t : Side) → NamesAll T (on_side t (view (running l r) items)) (on_side t S)
       go Left = both.0
       go Right = both.1
 
@@ -178,22 +179,22 @@ module _ (S : Sequent) (w : Within S) (R old : List ℕ) (l : Loaded) (a : Loads
   compounds Left = a.set ∙ ap compounds_of (sym k)
   compounds Right = b.set ∙ ap compounds_of right_part
 
-  pub all_loaded : Good T items (running l r) × (sequent_of T items (running l r) ≡ S)
+  pub all_loaded : Good T.nodes items (running l r) × (sequent_of T.nodes items (running l r) ≡ S)
   all_loaded =
       let N = view (running l r) items in (
         record {
           nodes = b.size;
           places = b.room;
           room = omega (arith, counted, room);
-          used = r.next;
+          used = T.count;
           few = few;
           distinct = b.nodes.distinct;
-          known = λ t. names_known T r.next (on_side t N) (on_side t S) (names t);
+          known = λ t. names_known T (on_side t N) (on_side t S) (names t);
           masks = masks;
           sets = λ t. rw (compounds t) (members (on_side t N));
         },
         (λ j. record {
-          on_left = names_formulas T r.next b.size few N.on_left S.on_left (names Left) j;
-          on_right = names_formulas T r.next b.size few N.on_right S.on_right (names Right) j;
+          on_left = names_formulas T b.size few N.on_left S.on_left (names Left) j;
+          on_right = names_formulas T b.size few N.on_right S.on_right (names Right) j;
         }),
       )
