@@ -1,13 +1,12 @@
 -- The formulas of a side of an accepted question, one after the other, and the whole of it.
 -- Assumes nothing.
 use mathlib.Core.Path.{◌≡◌, refl, sym, ap, ◌∙◌, subst}
-use mathlib.Core.List.{List, [], ◌∷◌, ◌++◌, append_assoc, append-nil}
+use mathlib.Core.List.{List, [], ◌∷◌, ◌++◌, append_assoc}
 use Prim.Native.Nat.{ℕ, zero, suc, ◌+◌, ◌-◌, ◌*◌, ◌≤◌, ◌<◌}
-use native.Mathlib.Nat.{add-zero}
 use native.Mathlib.Numerals.{add-one}
 use native.Mathlib.Omega.{arith}
 use lib.ListN.{length, take, drop, length-append}
-use lib.Seq.{slice, slice_empty, take-length, take-take, take-add, length-take-le}
+use lib.Seq.{slice, take-take, take-add, length-take-le}
 use Rattle.calculus.specs.declared.Side.{Side}
 use Rattle.calculus.specs.declared.Side.TheVariants.{Left, Right}
 use Rattle.calculus.specs.Fold.{fold, SUM, Each}
@@ -25,7 +24,7 @@ use Rattle.sequent.proofs.Premises.{take_drop}
 use Rattle.sequent.proofs.Sets.{members}
 use Rattle.names.specs.declared.Numbering.{Numbering}
 use Rattle.names.specs.declared.Loaded.{Loaded}
-use Rattle.names.specs.Loads.{NamesAll, none_yet, Loads, Enters, before}
+use Rattle.names.specs.Loads.{NamesAll, Loads, Enters, before}
 use Rattle.names.proofs.Entering.{names_split, names_known, names_formulas}
 
 -- ---- the next formula of a side
@@ -89,56 +88,37 @@ pub record Filled (q old : List ℕ) (start : Loaded) (u : Side) (a : Numbering)
   pub kept : take start.places items ≡ take start.places old
 
 module _ (q : List ℕ) (T₀ : Numbering) (old : List ℕ) (start : Loaded) (n : ℕ) (u : Side) (s : Starts q T₀ old start n u) where
-  pub filled_none : Filled q old start u T₀ old start 0
-  filled_none = record { ends = s.begins ∙ sym (add-zero _); loads = rw (append-nil (before u (question q))) s.loads; kept = refl }
+  module _ (T : Numbering) (items : List ℕ) (l : Loaded) (i : ℕ) (f : Filled q old start u T items l i) (h : i < n) where
+    inside : i < length (on_side u (question q))
+    inside = omega (arith, s.count)
 
-  module _ (T : Numbering) (items : List ℕ) (l : Loaded) (i : ℕ) (f : Filled q old start u T items l i) where
-    module _ (h : i < n) where
-      inside : i < length (on_side u (question q))
-      inside = omega (arith, s.count)
+    next : formula_at q l.end ≡ first_of (drop i (on_side u (question q)))
+    next = rw f.ends (ap first_of (place_formulas q u i (omega (arith, inside))))
 
-      next : formula_at q l.end ≡ first_of (drop i (on_side u (question q)))
-      next = rw f.ends (ap first_of (place_formulas q u i (omega (arith, inside))))
+    pub filled_enters : Enters q l (up_to u i (question q))
+    filled_enters =
+        let S = question q in
+        let w = (accepted_question q s.read).0 in
+        record {
+          well = rw f.ends (place_well q s.read u i inside);
+          lettered = rw next (next_lettered S u i inside w);
+          fits = rw next (omega (arith, next_sum S u i inside connectives, w.connectives));
+          room = omega (arith, next_sum S u i inside (λ x. 1), whole_size S w, ones (up_to u i S));
+        }
 
-      pub filled_enters : Enters q l (up_to u i (question q))
-      filled_enters =
-          let S = question q in
-          let w = (accepted_question q s.read).0 in
-          record {
-            well = rw f.ends (place_well q s.read u i inside);
-            lettered = rw next (next_lettered S u i inside w);
-            fits = rw next (omega (arith, next_sum S u i inside connectives, w.connectives));
-            room = omega (arith, next_sum S u i inside (λ x. 1), whole_size S w, ones (up_to u i S));
-          }
-
-      pub filled_next : (R : Numbering) (new : List ℕ) (r : Loaded) → Loads R new start.places r (up_to u i (question q) ++ (formula_at q l.end ∷ []))
-          → take l.places new ≡ take l.places items → r.end ≡ end_of q l.end → Filled q old start u R new r (i + 1)
-      filled_next R new r k t e =
-          let S = question q in
-          let d : up_to u i S ++ (formula_at q l.end ∷ []) ≡ up_to u (i + 1) S
-          = rw (next, add-one i, take_next (on_side u S) i inside) (append_assoc (before u S) (take i (on_side u S)) (first_of (drop i (on_side u S)) ∷ [])) in
-          record {
-            ends = e ∙ rw (next, f.ends, add-one i) (omega (arith, bytes_next (on_side u S) i inside));
-            loads = subst (Loads R new start.places r) d k;
-            kept = sym (take-take start.places l.places new f.loads.inside) ∙ ap (take start.places) t ∙ take-take start.places l.places items f.loads.inside ∙ f.kept;
-          }
-
-    pub filled_all : i ≡ n → Loads T items start.places l (before u (question q) ++ on_side u (question q))
-        × (take start.places items ≡ take start.places old)
-        × (l.end ≡ start.end + bytes_all (on_side u (question q)))
-    filled_all e =
-        let j : i ≡ length (on_side u (question q)) = e ∙ s.count in
-        let p : take i (on_side u (question q)) ≡ on_side u (question q) = ap (λ (k : ℕ). take k (on_side u (question q))) j ∙ take-length (on_side u (question q)) in
-        (rw p at f.loads, f.kept, f.ends ∙ rw (s.begins, p) refl)
+    pub filled_next : (R : Numbering) (new : List ℕ) (r : Loaded) → Loads R new start.places r (up_to u i (question q) ++ (formula_at q l.end ∷ []))
+        → take l.places new ≡ take l.places items → r.end ≡ end_of q l.end → Filled q old start u R new r (i + 1)
+    filled_next R new r k t e =
+        let S = question q in
+        let d : up_to u i S ++ (formula_at q l.end ∷ []) ≡ up_to u (i + 1) S
+        = rw (next, add-one i, take_next (on_side u S) i inside) (append_assoc (before u S) (take i (on_side u S)) (first_of (drop i (on_side u S)) ∷ [])) in
+        record {
+          ends = e ∙ rw (next, f.ends, add-one i) (omega (arith, bytes_next (on_side u S) i inside));
+          loads = subst (Loads R new start.places r) d k;
+          kept = sym (take-take start.places l.places new f.loads.inside) ∙ ap (take start.places) t ∙ take-take start.places l.places items f.loads.inside ∙ f.kept;
+        }
 
 -- ---- both sides
-
--- the left side has come, and the right side is to be filled
-pub between : (T : Numbering) (items : List ℕ) (first : ℕ) (l : Loaded) (xs : List Formula) (e : ℕ) → Loads T items first l xs
-    → Loads T items l.places (none_yet l.places e) xs
-between T items first l xs e h =
-    let n = slice_empty l.places items in
-    record { size = h.size; room = h.room; nodes = h.nodes; few = h.few; count = h.count; names = h.names; mask = rw n refl; set = rw n refl; inside = omega arith }
 
 abbrev running : Loaded → Loaded → Running
 running l r = record { left = record { count = l.places; mask = l.mask; set = l.set }; right = record { count = r.places - l.places; mask = r.mask; set = r.set } }
