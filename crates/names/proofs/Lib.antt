@@ -1,4 +1,4 @@
 -- The laws behind the functions' proofs. Assumes nothing.
-pub mod Numbering
+pub mod Naming
 pub mod Entering
 pub mod Sides

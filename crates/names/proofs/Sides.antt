@@ -1,13 +1,12 @@
 -- The formulas of a side of an accepted question, one after the other, and the whole of it.
 -- Assumes nothing.
 use mathlib.Core.Path.{◌≡◌, refl, sym, ap, ◌∙◌, subst}
-use mathlib.Core.List.{List, [], ◌∷◌, ◌++◌, append_assoc, append-nil}
+use mathlib.Core.List.{List, [], ◌∷◌, ◌++◌, append_assoc}
 use Prim.Native.Nat.{ℕ, zero, suc, ◌+◌, ◌-◌, ◌*◌, ◌≤◌, ◌<◌}
-use native.Mathlib.Nat.{add-zero}
 use native.Mathlib.Numerals.{add-one}
 use native.Mathlib.Omega.{arith}
 use lib.ListN.{length, take, drop, length-append}
-use lib.Seq.{slice, slice_empty, take-length, take-take, take-add, length-take-le}
+use lib.Seq.{slice, take-take, take-add, length-take-le}
 use Rattle.calculus.specs.declared.Side.{Side}
 use Rattle.calculus.specs.declared.Side.TheVariants.{Left, Right}
 use Rattle.calculus.specs.Fold.{fold, SUM, Each}
@@ -23,8 +22,9 @@ use Rattle.sequent.specs.declared.Running.{Running}
 use Rattle.sequent.specs.View.{view, set_of, sequent_of, letters_of, compounds_of, Masked, Good}
 use Rattle.sequent.proofs.Premises.{take_drop}
 use Rattle.sequent.proofs.Sets.{members}
+use Rattle.names.specs.declared.Numbering.{Numbering}
 use Rattle.names.specs.declared.Loaded.{Loaded}
-use Rattle.names.specs.Loads.{NamesAll, none_yet, Loads, Enters, before}
+use Rattle.names.specs.Loads.{NamesAll, Loads, Enters, before}
 use Rattle.names.proofs.Entering.{names_split, names_known, names_formulas}
 
 -- ---- the next formula of a side
@@ -75,76 +75,57 @@ whole_size S w = omega (arith, ones S.on_left, ones S.on_right, w.lefts, w.right
 -- ---- a side of an accepted question
 
 -- it has n formulas, and none of them has come
-pub record Starts (q T items : List ℕ) (start : Loaded) (n : ℕ) (u : Side) : Type 0 where
+pub record Starts (q : List ℕ) (a : Numbering) (items : List ℕ) (start : Loaded) (n : ℕ) (u : Side) : Type 0 where
   pub read : reading q ≡ accepted
   pub count : n ≡ length (on_side u (question q))
   pub begins : start.end ≡ side_start u (question q)
-  pub loads : Loads T items start.places start (before u (question q))
+  pub loads : Loads a items start.places start (before u (question q))
 
 -- its first i formulas have come
-pub record Filled (q old : List ℕ) (start : Loaded) (u : Side) (T items : List ℕ) (l : Loaded) (i : ℕ) : Type 0 where
+pub record Filled (q old : List ℕ) (start : Loaded) (u : Side) (a : Numbering) (items : List ℕ) (l : Loaded) (i : ℕ) : Type 0 where
   pub ends : l.end ≡ start_of u i (question q)
-  pub loads : Loads T items start.places l (up_to u i (question q))
+  pub loads : Loads a items start.places l (up_to u i (question q))
   pub kept : take start.places items ≡ take start.places old
 
-module _ (q T₀ old : List ℕ) (start : Loaded) (n : ℕ) (u : Side) (s : Starts q T₀ old start n u) where
-  pub filled_none : Filled q old start u T₀ old start 0
-  filled_none = record { ends = s.begins ∙ sym (add-zero _); loads = rw (append-nil (before u (question q))) s.loads; kept = refl }
+module _ (q : List ℕ) (T₀ : Numbering) (old : List ℕ) (start : Loaded) (n : ℕ) (u : Side) (s : Starts q T₀ old start n u) where
+  module _ (T : Numbering) (items : List ℕ) (l : Loaded) (i : ℕ) (f : Filled q old start u T items l i) (h : i < n) where
+    inside : i < length (on_side u (question q))
+    inside = omega (arith, s.count)
 
-  module _ (T items : List ℕ) (l : Loaded) (i : ℕ) (f : Filled q old start u T items l i) where
-    module _ (h : i < n) where
-      inside : i < length (on_side u (question q))
-      inside = omega (arith, s.count)
+    next : formula_at q l.end ≡ first_of (drop i (on_side u (question q)))
+    next = rw f.ends (ap first_of (place_formulas q u i (omega (arith, inside))))
 
-      next : formula_at q l.end ≡ first_of (drop i (on_side u (question q)))
-      next = rw f.ends (ap first_of (place_formulas q u i (omega (arith, inside))))
+    pub filled_enters : Enters q l (up_to u i (question q))
+    filled_enters =
+        let S = question q in
+        let w = (accepted_question q s.read).0 in
+        record {
+          well = rw f.ends (place_well q s.read u i inside);
+          lettered = rw next (next_lettered S u i inside w);
+          fits = rw next (omega (arith, next_sum S u i inside connectives, w.connectives));
+          room = omega (arith, next_sum S u i inside (λ x. 1), whole_size S w, ones (up_to u i S));
+        }
 
-      pub filled_enters : Enters q l (up_to u i (question q))
-      filled_enters =
-          let S = question q in
-          let w = (accepted_question q s.read).0 in
-          record {
-            well = rw f.ends (place_well q s.read u i inside);
-            lettered = rw next (next_lettered S u i inside w);
-            fits = rw next (omega (arith, next_sum S u i inside connectives, w.connectives));
-            room = omega (arith, next_sum S u i inside (λ x. 1), whole_size S w, ones (up_to u i S));
-          }
-
-      pub filled_next : (R new : List ℕ) (r : Loaded) → Loads R new start.places r (up_to u i (question q) ++ (formula_at q l.end ∷ []))
-          → take l.places new ≡ take l.places items → r.end ≡ end_of q l.end → Filled q old start u R new r (i + 1)
-      filled_next R new r k t e =
-          let S = question q in
-          let d : up_to u i S ++ (formula_at q l.end ∷ []) ≡ up_to u (i + 1) S
-          = rw (next, add-one i, take_next (on_side u S) i inside) (append_assoc (before u S) (take i (on_side u S)) (first_of (drop i (on_side u S)) ∷ [])) in
-          record {
-            ends = e ∙ rw (next, f.ends, add-one i) (omega (arith, bytes_next (on_side u S) i inside));
-            loads = subst (Loads R new start.places r) d k;
-            kept = sym (take-take start.places l.places new f.loads.inside) ∙ ap (take start.places) t ∙ take-take start.places l.places items f.loads.inside ∙ f.kept;
-          }
-
-    pub filled_all : i ≡ n → Loads T items start.places l (before u (question q) ++ on_side u (question q))
-        × (take start.places items ≡ take start.places old)
-        × (l.end ≡ start.end + bytes_all (on_side u (question q)))
-    filled_all e =
-        let j : i ≡ length (on_side u (question q)) = e ∙ s.count in
-        let p : take i (on_side u (question q)) ≡ on_side u (question q) = ap (λ (k : ℕ). take k (on_side u (question q))) j ∙ take-length (on_side u (question q)) in
-        (rw p at f.loads, f.kept, f.ends ∙ rw (s.begins, p) refl)
+    pub filled_next : (R : Numbering) (new : List ℕ) (r : Loaded) → Loads R new start.places r (up_to u i (question q) ++ (formula_at q l.end ∷ []))
+        → take l.places new ≡ take l.places items → r.end ≡ end_of q l.end → Filled q old start u R new r (i + 1)
+    filled_next R new r k t e =
+        let S = question q in
+        let d : up_to u i S ++ (formula_at q l.end ∷ []) ≡ up_to u (i + 1) S
+        = rw (next, add-one i, take_next (on_side u S) i inside) (append_assoc (before u S) (take i (on_side u S)) (first_of (drop i (on_side u S)) ∷ [])) in
+        record {
+          ends = e ∙ rw (next, f.ends, add-one i) (omega (arith, bytes_next (on_side u S) i inside));
+          loads = subst (Loads R new start.places r) d k;
+          kept = sym (take-take start.places l.places new f.loads.inside) ∙ ap (take start.places) t ∙ take-take start.places l.places items f.loads.inside ∙ f.kept;
+        }
 
 -- ---- both sides
-
--- the left side has come, and the right side is to be filled
-pub between : (T items : List ℕ) (first : ℕ) (l : Loaded) (xs : List Formula) (e : ℕ) → Loads T items first l xs
-    → Loads T items l.places (none_yet l.places e l.next) xs
-between T items first l xs e h =
-    let n = slice_empty l.places items in
-    record { size = h.size; room = h.room; nodes = h.nodes; few = h.few; count = h.count; names = h.names; mask = rw n refl; set = rw n refl; inside = omega arith }
 
 abbrev running : Loaded → Loaded → Running
 running l r = record { left = record { count = l.places; mask = l.mask; set = l.set }; right = record { count = r.places - l.places; mask = r.mask; set = r.set } }
 
-module _ (S : Sequent) (w : Within S) (R old : List ℕ) (l : Loaded) (a : Loads R old 0 l S.on_left)
-    (T items : List ℕ) (r : Loaded) (b : Loads T items l.places r (S.on_left ++ S.on_right)) (k : take l.places items ≡ take l.places old) where
-  few : r.next ≤ CONNECTIVES
+module _ (S : Sequent) (w : Within S) (R : Numbering) (old : List ℕ) (l : Loaded) (a : Loads R old 0 l S.on_left)
+    (T : Numbering) (items : List ℕ) (r : Loaded) (b : Loads T items l.places r (S.on_left ++ S.on_right)) (k : take l.places items ≡ take l.places old) where
+  few : T.count ≤ CONNECTIVES
   few = omega (arith, b.few, fold_append SUM connectives S.on_left S.on_right, w.connectives)
 
   room : r.places ≤ 2 * FORMULAS
@@ -154,16 +135,16 @@ module _ (S : Sequent) (w : Within S) (R old : List ℕ) (l : Loaded) (a : Loads
   counted = omega (arith, b.inside)
 
   -- the names of the two sides
-  names : (t : Side) → NamesAll T r.next (on_side t (view (running l r) items)) (on_side t S)
+  names : (t : Side) → NamesAll T (on_side t (view (running l r) items)) (on_side t S)
   names t = go t
     where
       split : take r.places items ≡ take l.places items ++ take (r.places - l.places) (drop l.places items)
       split = ap (λ (n : ℕ). take n items) (sym counted) ∙ take-add l.places (r.places - l.places) items
 
-      both : NamesAll T r.next (take l.places items) S.on_left × NamesAll T r.next (take (r.places - l.places) (drop l.places items)) S.on_right
-      both = names_split T r.next (take l.places items) (take (r.places - l.places) (drop l.places items)) S.on_left S.on_right (length-take-le l.places items (omega (arith, b.inside, room, b.room)) ∙ a.count) (subst (λ (ds : List ℕ). NamesAll T r.next ds (S.on_left ++ S.on_right)) split b.names)
+      both : NamesAll T (take l.places items) S.on_left × NamesAll T (take (r.places - l.places) (drop l.places items)) S.on_right
+      both = names_split T (take l.places items) (take (r.places - l.places) (drop l.places items)) S.on_left S.on_right (length-take-le l.places items (omega (arith, b.inside, room, b.room)) ∙ a.count) (subst (λ (ds : List ℕ). NamesAll T ds (S.on_left ++ S.on_right)) split b.names)
 
-      go : (t : Side) → NamesAll T r.next (on_side t (view (running l r) items)) (on_side t S)
+      go : (t : Side) → NamesAll T (on_side t (view (running l r) items)) (on_side t S)
       go Left = both.0
       go Right = both.1
 
@@ -178,22 +159,22 @@ module _ (S : Sequent) (w : Within S) (R old : List ℕ) (l : Loaded) (a : Loads
   compounds Left = a.set ∙ ap compounds_of (sym k)
   compounds Right = b.set ∙ ap compounds_of right_part
 
-  pub all_loaded : Good T items (running l r) × (sequent_of T items (running l r) ≡ S)
+  pub all_loaded : Good T.nodes items (running l r) × (sequent_of T.nodes items (running l r) ≡ S)
   all_loaded =
       let N = view (running l r) items in (
         record {
           nodes = b.size;
           places = b.room;
           room = omega (arith, counted, room);
-          used = r.next;
+          used = T.count;
           few = few;
           distinct = b.nodes.distinct;
-          known = λ t. names_known T r.next (on_side t N) (on_side t S) (names t);
+          known = λ t. names_known T (on_side t N) (on_side t S) (names t);
           masks = masks;
           sets = λ t. rw (compounds t) (members (on_side t N));
         },
         (λ j. record {
-          on_left = names_formulas T r.next b.size few N.on_left S.on_left (names Left) j;
-          on_right = names_formulas T r.next b.size few N.on_right S.on_right (names Right) j;
+          on_left = names_formulas T b.size few N.on_left S.on_left (names Left) j;
+          on_right = names_formulas T b.size few N.on_right S.on_right (names Right) j;
         }),
       )

@@ -51,7 +51,7 @@ pub struct Lists {
 
 impl Lists {
     pub fn new() -> Lists
-        ensures { (result.nodes ≡ replicate CONNECTIVES 0) × (result.items ≡ replicate Limits.ROOM 0) }
+        ensures { (result.numbering ≡ record { nodes = replicate CONNECTIVES 0; count = 0 }) × (result.items ≡ replicate Limits.ROOM 0) }
     {
         Lists {
             numbering: Numbering {
@@ -64,7 +64,7 @@ impl Lists {
 
     // The same, lent.
     pub fn names(&self) -> Names<'_>
-        ensures { (result.nodes.now ≡ self.now.nodes) × (result.items.now ≡ self.now.items) }
+        ensures { (result.nodes.now ≡ self.now.numbering.nodes) × (result.items.now ≡ self.now.items) }
     {
         Names {
             nodes: &self.numbering.nodes,
@@ -89,12 +89,12 @@ fn name(n: usize) -> u8
 
 // The name of the compound that has a node: that of an equal node, or the next.
 fn note(numbering: &mut Numbering, w: u32, end: usize) -> Named
-    requires { (n < CONNECTIVES)
-        × (length nodes.old ≡ CONNECTIVES)
-        × Nodes nodes.old n
-        × (first_of w < Limits.LETTERS + n)
-        × (second_of w < Limits.LETTERS + n) }
-    ensures { Noted w end n nodes.old nodes.new result }
+    requires { (numbering.old.count < CONNECTIVES)
+        × (length numbering.old.nodes ≡ CONNECTIVES)
+        × Nodes numbering.old
+        × (first_of w < Limits.LETTERS + numbering.old.count)
+        × (second_of w < Limits.LETTERS + numbering.old.count) }
+    ensures { Noted w end numbering.old numbering.new result }
 {
     let n = numbering.count;
     if let Some(i) = numbering.nodes[..n].iter().position(|x| *x == w) {
@@ -108,8 +108,8 @@ fn note(numbering: &mut Numbering, w: u32, end: usize) -> Named
 // Names the formula at a position, and notes the nodes of its compounds.
 #[cycle(number_number_parts)]
 fn number(q: &[u8], numbering: &mut Numbering, at: usize) -> Named
-    requires { Numbers q.now at n nodes.old }
-    ensures { Numbered q.now at n nodes.old nodes.new result }
+    requires { Numbers q.now at numbering.old }
+    ensures { Numbered q.now at numbering.old numbering.new result }
 {
     match Connective::try_from(q[at]) {
         Ok(k) => number_parts(q, numbering, at, k),
@@ -123,8 +123,8 @@ fn number(q: &[u8], numbering: &mut Numbering, at: usize) -> Named
 // A compound with the connective k: its parts, then itself.
 #[cycle(number_number_parts)]
 fn number_parts(q: &[u8], numbering: &mut Numbering, at: usize, k: Connective) -> Named
-    requires { Numbers q.now at n nodes.old × (get_or q.now at 0 ≡ command_of k) }
-    ensures { Numbered q.now at n nodes.old nodes.new result }
+    requires { Numbers q.now at numbering.old × (get_or q.now at 0 ≡ command_of k) }
+    ensures { Numbered q.now at numbering.old numbering.new result }
 {
     let f = number(q, numbering, at + 1);
     match k {
@@ -138,10 +138,10 @@ fn number_parts(q: &[u8], numbering: &mut Numbering, at: usize, k: Connective) -
 
 // The next formula of a side.
 fn enter(q: &[u8], numbering: &mut Numbering, items: &mut [u8; ROOM], l: Loaded) -> Loaded
-    requires { (first : ℕ) × (xs : List Formula) × Loads nodes.old items.old first l xs × Enters q.now l xs }
-    ensures { ((first : ℕ) (xs : List Formula) → Loads nodes.old items.old first l xs
+    requires { (first : ℕ) × (xs : List Formula) × Loads numbering.old items.old first l xs × Enters q.now l xs }
+    ensures { ((first : ℕ) (xs : List Formula) → Loads numbering.old items.old first l xs
         → Enters q.now l xs
-        → Loads nodes.new items.new first result (xs ++ (formula_at q.now l.end ∷ [])))
+        → Loads numbering.new items.new first result (xs ++ (formula_at q.now l.end ∷ [])))
         × (take l.places items.new ≡ take l.places items.old)
         × (result.end ≡ end_of q.now l.end) }
 {
@@ -156,15 +156,15 @@ fn enter(q: &[u8], numbering: &mut Numbering, items: &mut [u8; ROOM], l: Loaded)
     }
 }
 
-// The formulas of a side of an accepted question, where so many places and nodes are in use.
+// The formulas of a side of an accepted question, where so many places are in use.
 fn load(
     xs: Formulas<'_>,
     numbering: &mut Numbering,
     items: &mut [u8; ROOM],
     places: usize,
 ) -> Loaded
-    requires { Loads nodes.old items.old places (none_yet places xs.start next) (before xs.side (question xs.q.bytes.now)) }
-    ensures { let S = question xs.entry.q.bytes.now in let ys = on_side xs.entry.side S in Loads nodes.new items.new places result (before xs.entry.side S ++ ys)
+    requires { Loads numbering.old items.old places (none_yet places xs.start) (before xs.side (question xs.q.bytes.now)) }
+    ensures { let S = question xs.entry.q.bytes.now in let ys = on_side xs.entry.side S in Loads numbering.new items.new places result (before xs.entry.side S ++ ys)
         × (take places items.new ≡ take places items.old)
         × (result.end ≡ xs.entry.start + bytes_all ys) }
 {
@@ -183,8 +183,8 @@ fn load(
 
 // The running sequent of an accepted question, its nodes and its places.
 pub fn root(q: Question<'_>, lists: &mut Lists) -> Running
-    ensures { Good lists.new.nodes lists.new.items result
-        × (sequent_of lists.new.nodes lists.new.items result ≡ question q.entry.bytes.now) }
+    ensures { Good lists.new.numbering.nodes lists.new.items result
+        × (sequent_of lists.new.numbering.nodes lists.new.items result ≡ question q.entry.bytes.now) }
 {
     let numbering = &mut lists.numbering;
     numbering.count = 0;

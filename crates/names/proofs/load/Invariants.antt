@@ -6,5 +6,5 @@ use Rattle.names.proofs.load.Given as goal
 
 abbrev pub invariant-loop-i : goal.invariant-loop-i
 invariant-loop-i l =
-    let start = none_yet l.places l.xs.start l.next in
-    (u : Side) → Starts l.xs.q.bytes.now l.initial.nodes l.initial.items start l.n u → Filled l.xs.q.bytes.now l.initial.items start u l.nodes l.items l.l l._i
+    let start = none_yet l.places l.xs.start in
+    (u : Side) → Starts l.xs.q.bytes.now l.initial.numbering l.initial.items start l.n u → Filled l.xs.q.bytes.now l.initial.items start u l.numbering l.items l.l l._i

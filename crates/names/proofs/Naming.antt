@@ -19,25 +19,26 @@ use Rattle.question.proofs.Parts.{letter_at, first_at, not_at, TwoAt, two_at}
 use Rattle.question.proofs.Readers.{connective_range}
 use Rattle.sequent.specs.Names.{node, Node, node_of, Tells, first_of, second_of}
 use Rattle.sequent.proofs.Namings.{node_read, command_small}
+use Rattle.names.specs.declared.Numbering.{Numbering}
 use Rattle.names.specs.declared.Named.{Named}
 use Rattle.names.specs.Loads.{Kept, Noted, Numbers, Numbered}
 
 -- ---- nodes that stay
 
-node_kept : (T R : List ℕ) (n : ℕ) → Kept n T R → (d b f g : ℕ) → d < LETTERS + n → Node T d b f g → Node R d b f g
-node_kept T R n k d b f g h t =
+node_kept : (a b : Numbering) → Kept a b → (d c f g : ℕ) → d < LETTERS + a.count → Node a.nodes d c f g → Node b.nodes d c f g
+node_kept a b k d c f g h t =
     record { above = t.above; held = k (d - LETTERS) (omega (arith, t.above)) ∙ t.held; first = t.first; second = t.second }
 
-pub tells_kept : (T R : List ℕ) (n : ℕ) → Kept n T R → (x : Formula) (d : ℕ) → d < LETTERS + n → Tells T d x → Tells R d x
-tells_kept T R n k (letter j) d h t = t
-tells_kept T R n k (neg x) d h t =
-    (t.0, node_kept T R n k d (code (CONNECTIVE NOT)) t.0 t.0 h t.1, tells_kept T R n k x t.0 (omega (arith, t.1.first)) t.2)
-tells_kept T R n k (join b x y) d h t = (
+pub tells_kept : (a b : Numbering) → Kept a b → (x : Formula) (d : ℕ) → d < LETTERS + a.count → Tells a.nodes d x → Tells b.nodes d x
+tells_kept a b k (letter j) d h t = t
+tells_kept a b k (neg x) d h t =
+    (t.0, node_kept a b k d (code (CONNECTIVE NOT)) t.0 t.0 h t.1, tells_kept a b k x t.0 (omega (arith, t.1.first)) t.2)
+tells_kept a b k (join o x y) d h t = (
   t.0,
   t.1,
-  node_kept T R n k d (code (CONNECTIVE (two b))) t.0 t.1 h t.2,
-  tells_kept T R n k x t.0 (omega (arith, t.2.first)) t.3,
-  tells_kept T R n k y t.1 (omega (arith, t.2.second)) t.4,
+  node_kept a b k d (code (CONNECTIVE (two o))) t.0 t.1 h t.2,
+  tells_kept a b k x t.0 (omega (arith, t.2.first)) t.3,
+  tells_kept a b k y t.1 (omega (arith, t.2.second)) t.4,
 )
 
 -- ---- a compound's node
@@ -47,16 +48,16 @@ module _ (k : Connective) (n : ℕ) (small : n ≤ CONNECTIVES) (f g : ℕ) (h :
   parts_lower : (first_of w < LETTERS + n) × (second_of w < LETTERS + n)
   parts_lower = let r = node_read (code (CONNECTIVE k)) f g w (command_small k) (omega arith) (omega arith) e in (omega (arith, r.first), omega (arith, r.second))
 
-  noted_node : (behind : ℕ) (T R : List ℕ) (r : Named) → Noted w behind n T R r → Node R r.name (code (CONNECTIVE k)) f g
-  noted_node behind T R r t =
-      let p = node_read (code (CONNECTIVE k)) f g (node_of R r.name) (command_small k) (omega arith) (omega arith) (t.held ∙ e) in
+  noted_node : (behind : ℕ) (a b : Numbering) (r : Named) → Noted w behind a b r → Node b.nodes r.name (code (CONNECTIVE k)) f g
+  noted_node behind a b r t =
+      let p = node_read (code (CONNECTIVE k)) f g (node_of b.nodes r.name) (command_small k) (omega arith) (omega arith) (t.held ∙ e) in
       let l = t.nodes.lower (r.name - LETTERS) (omega (arith, t.above, t.below)) in
       record { above = t.above; held = t.held ∙ e; first = omega (arith, l.0, p.first, t.above); second = omega (arith, l.1, p.second, t.above) }
 
 -- ---- a formula at a position
 
-module _ (q : List ℕ) (at n : ℕ) (T : List ℕ) (h : Numbers q at n T) where
-  pub number_letter : ((k : Read) → get_or q at 0 ≡ command_of k → ⊥) → Numbered q at n T T (record { name = get_or q (at + 1) 0; end = at + 2; next = n })
+module _ (q : List ℕ) (at : ℕ) (T : Numbering) (h : Numbers q at T) where
+  pub number_letter : ((k : Read) → get_or q at 0 ≡ command_of k → ⊥) → Numbered q at T T (record { name = get_or q (at + 1) 0; end = at + 2 })
   number_letter other =
       let a = letter_at q at h.well (λ i. omega (arith, other Not, other (Two And), other (Two Or), other (Two Implies), other (Two Equiv))) in
       let l : get_or q (at + 1) 0 < LETTERS = rw a.stands at h.lettered in
@@ -83,7 +84,7 @@ module _ (q : List ℕ) (at n : ℕ) (T : List ℕ) (h : Numbers q at n T) where
         go NOT f g = omega arith
         go (two o) f g = omega arith
 
-    pub first_enters : Numbers q (at + 1) n T
+    pub first_enters : Numbers q (at + 1) T
     first_enters =
         let a = first_at q at h.well byte in
         record {
@@ -98,9 +99,9 @@ module _ (q : List ℕ) (at n : ℕ) (T : List ℕ) (h : Numbers q at n T) where
         go NOT f g l = l
         go (two o) f g l = l.0
 
-    module _ (f : Named) (R : List ℕ) (a : Numbered q (at + 1) n T R f) where
+    module _ (f : Named) (R : Numbering) (a : Numbered q (at + 1) T R f) where
       -- NOT
-      pub not_room : f.next < CONNECTIVES
+      pub not_room : R.count < CONNECTIVES
       not_room = omega (arith, a.few, less, h.fits)
 
       module _ (is : k ≡ Not) (w : ℕ) (d : w ≡ node (command_of k) f.name f.name) where
@@ -110,18 +111,18 @@ module _ (q : List ℕ) (at n : ℕ) (T : List ℕ) (h : Numbers q at n T) where
         held : w ≡ node (code (CONNECTIVE NOT)) f.name f.name
         held = rw is at d
 
-        pub not_lower : (first_of w < LETTERS + f.next) × (second_of w < LETTERS + f.next)
-        not_lower = parts_lower NOT f.next (omega (arith, not_room)) f.name f.name a.below a.below w held
+        pub not_lower : (first_of w < LETTERS + R.count) × (second_of w < LETTERS + R.count)
+        not_lower = parts_lower NOT R.count (omega (arith, not_room)) f.name f.name a.below a.below w held
 
-        pub number_not : (P : List ℕ) (r : Named) → Noted w f.end f.next R P r → Numbered q at n T P r
+        pub number_not : (P : Numbering) (r : Named) → Noted w f.end R P r → Numbered q at T P r
         number_not P r t =
             let s = not_at q at h.well byte e in
             let x = formula_at q (at + 1) in
             record {
               tells = rw s.stands (
                 f.name,
-                noted_node NOT f.next (omega (arith, not_room)) f.name f.name a.below a.below w held f.end R P r t,
-                tells_kept R P f.next t.kept x f.name a.below a.tells,
+                noted_node NOT R.count (omega (arith, not_room)) f.name f.name a.below a.below w held f.end R P r t,
+                tells_kept R P t.kept x f.name a.below a.tells,
               );
               below = t.below;
               end = t.end ∙ a.end ∙ sym s.ends;
@@ -140,23 +141,23 @@ module _ (q : List ℕ) (at n : ℕ) (T : List ℕ) (h : Numbers q at n T) where
         count : connectives (formula_at q at) ≡ connectives (formula_at q (at + 1)) + connectives (formula_at q f.end) + 1
         count = rw (a.end, second.stands) (omega arith)
 
-        pub second_enters : Numbers q f.end f.next R
+        pub second_enters : Numbers q f.end R
         second_enters =
             let l : Lettered (join second.o (formula_at q (at + 1)) (formula_at q (end_of q (at + 1)))) = rw second.stands at h.lettered in
             record { well = rw a.end second.well; lettered = rw a.end l.1; fits = omega (arith, a.few, count, h.fits); size = a.size ∙ h.size; nodes = a.nodes }
 
-        module _ (g : Named) (P : List ℕ) (b : Numbered q f.end f.next R P g) where
-          pub two_room : g.next < CONNECTIVES
+        module _ (g : Named) (P : Numbering) (b : Numbered q f.end R P g) where
+          pub two_room : P.count < CONNECTIVES
           two_room = omega (arith, a.few, b.few, count, h.fits)
 
           module _ (w : ℕ) (d : w ≡ node (command_of k) f.name g.name) where
             held_two : w ≡ node (code (CONNECTIVE (two second.o))) f.name g.name
             held_two = d ∙ ap (λ (b : ℕ). node b f.name g.name) (sym command ∙ second.byte)
 
-            pub two_lower : (first_of w < LETTERS + g.next) × (second_of w < LETTERS + g.next)
-            two_lower = parts_lower (two second.o) g.next (omega (arith, two_room)) f.name g.name (omega (arith, a.below, b.more)) b.below w held_two
+            pub two_lower : (first_of w < LETTERS + P.count) × (second_of w < LETTERS + P.count)
+            two_lower = parts_lower (two second.o) P.count (omega (arith, two_room)) f.name g.name (omega (arith, a.below, b.more)) b.below w held_two
 
-            pub number_two : (Q : List ℕ) (r : Named) → Noted w g.end g.next P Q r → Numbered q at n T Q r
+            pub number_two : (Q : Numbering) (r : Named) → Noted w g.end P Q r → Numbered q at T Q r
             number_two Q r t =
                 let x = formula_at q (at + 1) in
                 let y = formula_at q (end_of q (at + 1)) in
@@ -164,9 +165,9 @@ module _ (q : List ℕ) (at n : ℕ) (T : List ℕ) (h : Numbers q at n T) where
                   tells = rw second.stands (
                     f.name,
                     g.name,
-                    noted_node (two second.o) g.next (omega (arith, two_room)) f.name g.name (omega (arith, a.below, b.more)) b.below w held_two g.end P Q r t,
-                    tells_kept R Q f.next (λ k i. t.kept k (omega (arith, b.more)) ∙ b.kept k i) x f.name a.below a.tells,
-                    tells_kept P Q g.next t.kept y g.name b.below (rw a.end at b.tells),
+                    noted_node (two second.o) P.count (omega (arith, two_room)) f.name g.name (omega (arith, a.below, b.more)) b.below w held_two g.end P Q r t,
+                    tells_kept R Q (λ k i. t.kept k (omega (arith, b.more)) ∙ b.kept k i) x f.name a.below a.tells,
+                    tells_kept P Q t.kept y g.name b.below (rw a.end at b.tells),
                   );
                   below = t.below;
                   end = t.end ∙ b.end ∙ rw a.end (sym second.ends);
