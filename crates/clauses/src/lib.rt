@@ -15,7 +15,7 @@ ghost use Rattle.clauses.specs.Answers.{reply_of, answer_of, Settles};
 ghost use Rattle.clauses.specs.declared.NotClauses.TheVariants.{Refused};
 
 use calculus::Side;
-use question::{ALL_FORMULAS, Question, Refusal};
+use question::{ALL_FORMULAS, Ended, Question, Refusal};
 
 // A clause: its letters under NOT, and its letters without NOT.
 #[derive(Clone, Copy, Default)]
@@ -136,7 +136,7 @@ impl From<Refusal> for NotClauses {
 }
 
 // The clause of the formula at a position, with at most one letter without NOT, and the position behind it.
-fn clause_at(q: &[u8], at: usize) -> Result<(Masks, usize), NotClauses>
+fn clause_at(q: &[u8], at: usize) -> Result<Ended<Masks>, NotClauses>
     requires { Well q.now at × Lettered (formula_at q.now at) }
     ensures { result ≡ clause_at q.now at }
 {
@@ -144,7 +144,10 @@ fn clause_at(q: &[u8], at: usize) -> Result<(Masks, usize), NotClauses>
     if 1 < g.count {
         return Err(NotClauses::ManyPositive(at));
     }
-    Ok((g.masks, g.at))
+    Ok(Ended {
+        value: g.masks,
+        end: g.at,
+    })
 }
 
 // The state after a round over the clauses. A clause that is not met joins an empty mask: with a `filter` a round took
@@ -214,7 +217,9 @@ fn decide_left(q: Question<'_>) -> Result<ClauseVerdict, NotClauses>
     let mut at = formulas.start;
     let mut clauses = [Masks::default(); ALL_FORMULAS];
     for clause in clauses[..n].iter_mut() {
-        (*clause, at) = clause_at(q.bytes, at)?;
+        let next = clause_at(q.bytes, at)?;
+        *clause = next.value;
+        at = next.end;
     }
     Ok(decide(&clauses[..n]))
 }

@@ -15,38 +15,22 @@ ghost use Rattle.sequent.specs.View.{sequent_of, Good};
 ghost use Rattle.sequent.specs.Compounds.{Stands};
 ghost use Rattle.names.specs.Loads.{Nodes, Noted, Numbers, Numbered, none_yet, Loads, Enters, before};
 
-use question::{ALL_CONNECTIVES, Connective, Formulas, LETTERS, Question};
+use arrayvec::ArrayVec;
+use question::{ALL_CONNECTIVES, Connective, Ended, Formulas, LETTERS, Question};
 use sequent::{Half, Names, ROOM, Running};
 
-// The nodes in use, from the first, and how many these are.
-#[derive(Drop)]
-pub struct Numbering {
-    pub nodes: [u32; ALL_CONNECTIVES],
-    pub count: usize,
-}
-
-// A formula's name, and the position behind it.
-#[derive(Clone, Copy)]
-pub struct Named {
-    pub name: u8,
-    pub end: usize,
-}
-
-// The places filled so far, the letters and the compounds of the side that is being filled, and the position behind its formulas
-// so far. The list of places is lent (no heap), so how many are in use is counted here.
-#[derive(Clone, Copy)]
-pub struct Loaded {
-    pub places: usize,
-    pub mask: u64,
-    pub set: u64,
-    pub end: usize,
-}
-
-// Room for the nodes of a question's compounds and the names of its formulas.
+// The nodes of a question's compounds, room for as many as there are connectives, and the names of its formulas.
 #[derive(Drop)]
 pub struct Lists {
-    pub numbering: Numbering,
+    pub nodes: ArrayVec<u32, ALL_CONNECTIVES>,
     pub items: [u8; ROOM],
+}
+
+// A side's formulas so far, and the position behind them.
+#[derive(Clone, Copy)]
+pub struct Loaded {
+    pub half: Half,
+    pub end: usize,
 }
 
 impl Lists {
@@ -54,10 +38,7 @@ impl Lists {
         ensures { (result.numbering ≡ record { nodes = replicate CONNECTIVES 0; count = 0 }) × (result.items ≡ replicate Limits.ROOM 0) }
     {
         Lists {
-            numbering: Numbering {
-                nodes: [0; ALL_CONNECTIVES],
-                count: 0,
-            },
+            nodes: ArrayVec::new(),
             items: [0; ROOM],
         }
     }
@@ -67,7 +48,7 @@ impl Lists {
         ensures { (result.nodes.now ≡ self.now.numbering.nodes) × (result.items.now ≡ self.now.items) }
     {
         Names {
-            nodes: &self.numbering.nodes,
+            nodes: self.nodes.as_slice(),
             items: &self.items,
         }
     }
@@ -88,7 +69,7 @@ fn name(n: usize) -> u8
 }
 
 // The name of the compound that has a node: that of an equal node, or the next.
-fn note(numbering: &mut Numbering, w: u32, end: usize) -> Named
+fn note(nodes: &mut ArrayVec<u32, ALL_CONNECTIVES>, w: u32) -> u8
     requires { (numbering.old.count < CONNECTIVES)
         × (length numbering.old.nodes ≡ CONNECTIVES)
         × Nodes numbering.old
@@ -96,25 +77,24 @@ fn note(numbering: &mut Numbering, w: u32, end: usize) -> Named
         × (second_of w < Limits.LETTERS + numbering.old.count) }
     ensures { Noted w end numbering.old numbering.new result }
 {
-    let n = numbering.count;
-    if let Some(i) = numbering.nodes[..n].iter().position(|x| *x == w) {
-        return Named { name: name(i), end };
+    if let Some(i) = nodes.as_slice().iter().position(|x| *x == w) {
+        return name(i);
     }
-    numbering.nodes[n] = w;
-    numbering.count = n + 1;
-    Named { name: name(n), end }
+    let n = nodes.len();
+    nodes.push(w);
+    name(n)
 }
 
 // Names the formula at a position, and notes the nodes of its compounds.
 #[cycle(number_number_parts)]
-fn number(q: &[u8], numbering: &mut Numbering, at: usize) -> Named
+fn number(q: &[u8], nodes: &mut ArrayVec<u32, ALL_CONNECTIVES>, at: usize) -> Ended<u8>
     requires { Numbers q.now at numbering.old }
     ensures { Numbered q.now at numbering.old numbering.new result }
 {
     match Connective::try_from(q[at]) {
-        Ok(k) => number_parts(q, numbering, at, k),
-        Err(_) => Named {
-            name: q[at + 1],
+        Ok(k) => number_parts(q, nodes, at, k),
+        Err(_) => Ended {
+            value: q[at + 1],
             end: at + 2,
         },
     }
@@ -122,22 +102,28 @@ fn number(q: &[u8], numbering: &mut Numbering, at: usize) -> Named
 
 // A compound with the connective k: its parts, then itself.
 #[cycle(number_number_parts)]
-fn number_parts(q: &[u8], numbering: &mut Numbering, at: usize, k: Connective) -> Named
+fn number_parts(
+    q: &[u8],
+    nodes: &mut ArrayVec<u32, ALL_CONNECTIVES>,
+    at: usize,
+    k: Connective,
+) -> Ended<u8>
     requires { Numbers q.now at numbering.old × (get_or q.now at 0 ≡ command_of k) }
     ensures { Numbered q.now at numbering.old numbering.new result }
 {
-    let f = number(q, numbering, at + 1);
-    match k {
-        Connective::Not => note(numbering, node(k, f.name, f.name), f.end),
-        Connective::Two(_) => {
-            let g = number(q, numbering, f.end);
-            note(numbering, node(k, f.name, g.name), g.end)
-        }
+    let f = number(q, nodes, at + 1);
+    let g = match k {
+        Connective::Not => f,
+        Connective::Two(_) => number(q, nodes, f.end),
+    };
+    Ended {
+        value: note(nodes, node(k, f.value, g.value)),
+        end: g.end,
     }
 }
 
 // The next formula of a side.
-fn enter(q: &[u8], numbering: &mut Numbering, items: &mut [u8; ROOM], l: Loaded) -> Loaded
+fn enter(q: &[u8], lists: &mut Lists, first: usize, l: Loaded) -> Loaded
     requires { (first : ℕ) × (xs : List Formula) × Loads numbering.old items.old first l xs × Enters q.now l xs }
     ensures { ((first : ℕ) (xs : List Formula) → Loads numbering.old items.old first l xs
         → Enters q.now l xs
@@ -145,24 +131,20 @@ fn enter(q: &[u8], numbering: &mut Numbering, items: &mut [u8; ROOM], l: Loaded)
         × (take l.places items.new ≡ take l.places items.old)
         × (result.end ≡ end_of q.now l.end) }
 {
-    let f = number(q, numbering, l.end);
-    let n = l.places;
-    items[n] = f.name;
+    let f = number(q, &mut lists.nodes, l.end);
+    let place = first + l.half.count;
+    lists.items[place] = f.value;
     Loaded {
-        places: n + 1,
-        mask: l.mask | sequent::letter_bit(f.name),
-        set: l.set | sequent::compound_bit(f.name),
+        half: Half {
+            count: l.half.count + 1,
+            ..l.half.with(f.value)
+        },
         end: f.end,
     }
 }
 
 // The formulas of a side of an accepted question, where so many places are in use.
-fn load(
-    xs: Formulas<'_>,
-    numbering: &mut Numbering,
-    items: &mut [u8; ROOM],
-    places: usize,
-) -> Loaded
+fn load(xs: Formulas<'_>, lists: &mut Lists, first: usize) -> Loaded
     requires { Loads numbering.old items.old places (none_yet places xs.start) (before xs.side (question xs.q.bytes.now)) }
     ensures { let S = question xs.entry.q.bytes.now in let ys = on_side xs.entry.side S in Loads numbering.new items.new places result (before xs.entry.side S ++ ys)
         × (take places items.new ≡ take places items.old)
@@ -170,13 +152,11 @@ fn load(
 {
     let n = xs.count();
     let mut l = Loaded {
-        places,
-        mask: 0,
-        set: 0,
+        half: Half::default(),
         end: xs.start,
     };
     for _i in 0..n {
-        l = enter(xs.q.bytes, numbering, items, l);
+        l = enter(xs.q.bytes, lists, first, l);
     }
     l
 }
@@ -186,21 +166,11 @@ pub fn root(q: Question<'_>, lists: &mut Lists) -> Running
     ensures { Good lists.new.numbering.nodes lists.new.items result
         × (sequent_of lists.new.numbering.nodes lists.new.items result ≡ question q.entry.bytes.now) }
 {
-    let numbering = &mut lists.numbering;
-    numbering.count = 0;
-    let items = &mut lists.items;
-    let l = load(q.left(), numbering, items, 0);
-    let r = load(q.right(l.end), numbering, items, l.places);
+    lists.nodes.clear();
+    let l = load(q.left(), lists, 0);
+    let r = load(q.right(l.end), lists, l.half.count);
     Running {
-        left: Half {
-            count: l.places,
-            mask: l.mask,
-            set: l.set,
-        },
-        right: Half {
-            count: r.places - l.places,
-            mask: r.mask,
-            set: r.set,
-        },
+        left: l.half,
+        right: r.half,
     }
 }

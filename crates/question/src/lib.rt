@@ -383,6 +383,13 @@ impl Walk {
     }
 }
 
+// What a formula comes to, and the position behind the formula.
+#[derive(Clone, Copy)]
+pub struct Ended<T> {
+    pub value: T,
+    pub end: usize,
+}
+
 // A formula is the question's bytes and a position, here and in the crates above. In a struct of both, with `Well` as its ghost
 // field, each part would be put in to be taken out again, since walks hand positions on, and the width took 1.03 to 1.13 times
 // as long.
