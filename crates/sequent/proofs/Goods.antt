@@ -39,7 +39,7 @@ use Rattle.sequent.proofs.Restarts.{restarts}
 
 -- ---- names that are known: their letters, and the first compound
 
-module _ (T : List ℕ) (full : length T ≡ CONNECTIVES) (n : ℕ) (few : n ≤ CONNECTIVES) where
+module _ (T : List ℕ) (full : length T ≤ CONNECTIVES) (n : ℕ) (few : n ≤ length T) where
   name_bit : (d : ℕ) → Known T n d → bit_of d ≡ letter_bit (formula_in T d)
   name_bit d k = go (dec_lt d LETTERS)
     where

@@ -32,14 +32,14 @@ pub record Read (b f g w : ℕ) : Type 0 where
 pub node_read : (b f g w : ℕ) → b < 256 → f < 256 → g < 256 → w ≡ node b f g → Read b f g w
 node_read b f g w h i j e = record { command = omega arith; first = omega arith; second = omega arith }
 
-module _ (T : List ℕ) (full : length T ≡ CONNECTIVES) where
-  node_known : (d : ℕ) (k : Connective) (f g : ℕ) → Node T d (code (CONNECTIVE k)) f g → d < LETTERS + CONNECTIVES → Read (code (CONNECTIVE k)) f g (node_of T d)
+module _ (T : List ℕ) (full : length T ≤ CONNECTIVES) where
+  node_known : (d : ℕ) (k : Connective) (f g : ℕ) → Node T d (code (CONNECTIVE k)) f g → d < LETTERS + length T → Read (code (CONNECTIVE k)) f g (node_of T d)
   node_known d k f g n h =
       node_read (code (CONNECTIVE k)) f g (node_of T d) (command_small k) (omega (arith, n.first)) (omega (arith, n.second)) n.held
 
   -- ---- the formula of a name
 
-  told_by : (x : Formula) (d k : ℕ) → Tells T d x → d < LETTERS + CONNECTIVES → d < LETTERS + k → formula_by k T d ≡ x
+  told_by : (x : Formula) (d k : ℕ) → Tells T d x → d < LETTERS + length T → d < LETTERS + k → formula_by k T d ≡ x
   told_by (letter j) d zero t h e = ap letter t.0
   told_by (letter j) d (suc k) t h e = rw (lt-ltb d LETTERS (omega (arith, t.0, t.1))) (ap letter t.0)
   told_by (neg x) d zero t h e = absurd (omega (arith, t.1.above))
@@ -52,10 +52,10 @@ module _ (T : List ℕ) (full : length T ≡ CONNECTIVES) where
       let r = node_known d (two b) t.0 t.1 n h in
       rw (le-ltb d LETTERS n.above, r.command, r.first, r.second, connective_code (two b), told_by x t.0 k t.3 (omega (arith, n.first)) (omega (arith, n.first)), told_by y t.1 k t.4 (omega (arith, n.second)) (omega (arith, n.second)))
 
-  pub told_formula : (d : ℕ) (x : Formula) → Tells T d x → d < LETTERS + CONNECTIVES → formula_in T d ≡ x
+  pub told_formula : (d : ℕ) (x : Formula) → Tells T d x → d < LETTERS + length T → formula_in T d ≡ x
   told_formula d x t h = told_by x d (length T) t h (omega arith)
 
-  module _ (n : ℕ) (few : n ≤ CONNECTIVES) where
+  module _ (n : ℕ) (few : n ≤ length T) where
     pub known_formula : (d : ℕ) (k : Known T n d) → formula_in T d ≡ k.formula
     known_formula d k = told_formula d k.formula k.tells (omega (arith, k.below))
 
@@ -69,7 +69,7 @@ module _ (T : List ℕ) (full : length T ≡ CONNECTIVES) where
 
     -- a compound's name: its node, and what its parts are
     pub record Compounded (d : ℕ) : Type 0 where
-      pub inside : d - LETTERS < CONNECTIVES
+      pub inside : d - LETTERS < length T
       pub stands : formula_in T d ≡ whole (compound_of (formula_in T d))
       pub command : node_of T d % 256 ≡ code (CONNECTIVE (compound_of (formula_in T d)).connective)
       pub first : formula_in T (first_of (node_of T d)) ≡ (compound_of (formula_in T d)).f
@@ -79,7 +79,7 @@ module _ (T : List ℕ) (full : length T ≡ CONNECTIVES) where
 
     compound_not : (d : ℕ) (x : Formula) → Tells T d (neg x) → d < LETTERS + n → Compounded d
     compound_not d x t h =
-        let i : d < LETTERS + CONNECTIVES = omega arith in
+        let i : d < LETTERS + length T = omega arith in
         let r = node_known d NOT t.0 t.0 t.1 i in
         let e : formula_in T d ≡ neg x = told_formula d (neg x) t i in
         let f : formula_in T t.0 ≡ x = told_formula t.0 x t.2 (omega (arith, t.1.first)) in
@@ -96,7 +96,7 @@ module _ (T : List ℕ) (full : length T ≡ CONNECTIVES) where
 
     compound_two : (d : ℕ) (b : Binary) (x y : Formula) → Tells T d (join b x y) → d < LETTERS + n → Compounded d
     compound_two d b x y t h =
-        let i : d < LETTERS + CONNECTIVES = omega arith in
+        let i : d < LETTERS + length T = omega arith in
         let m = t.2 in
         let r = node_known d (two b) t.0 t.1 m i in
         let e : formula_in T d ≡ join b x y = told_formula d (join b x y) t i in

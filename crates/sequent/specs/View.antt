@@ -116,11 +116,11 @@ pub record Joined (lefts rights : ℕ) (p : Placing) (f g : ℕ) (s r : Running)
 
 -- used: how many nodes are in use
 pub record Good (T items : List ℕ) (s : Running) : Type 0 where
-  pub nodes : length T ≡ CONNECTIVES
+  pub nodes : length T ≤ CONNECTIVES
   pub places : length items ≡ ROOM
   pub room : s.left.count + s.right.count ≤ ROOM
   pub used : ℕ
-  pub few : used ≤ CONNECTIVES
+  pub few : used ≤ length T
   pub distinct : Distinct T used
   pub known : (t : Side) → Each (Known T used) (on_side t (view s items))
   pub masks : Masked s items

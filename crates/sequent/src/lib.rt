@@ -11,7 +11,7 @@ ghost use Rattle.calculus.specs.Table.{premise};
 ghost use Rattle.question.specs.Connectives.{connective_of, command_of};
 ghost use Rattle.sequent.specs.Names.{first_of, second_of};
 ghost use Rattle.sequent.specs.Rule.{rule_of, goes_to, keep, parts_on, placed};
-ghost use Rattle.sequent.specs.View.{view, count_of, slot_of, end_of, start_of, bit_of, compound_bit};
+ghost use Rattle.sequent.specs.View.{view, count_of, slot_of, end_of, start_of};
 ghost use Rattle.sequent.specs.View.{grown, Covered, With, Joined, Good, name_at};
 ghost use Rattle.sequent.specs.Passes.{Fits, Stored, Builds};
 ghost use Rattle.sequent.specs.Compounds.{Clear, Found, Stands, Paired, rule_for, reduction_at};
