@@ -20,6 +20,7 @@ use Rattle.calculus.specs.Reading.{accepted, reading}
 use Rattle.calculus.specs.Clauses.{Clause, both, clause_of, several, Profile, outside, clauses, prepend, admit, profile_from, light_all, Decision, theorem, refuted, decided}
 use Rattle.calculus.specs.Reply.{decision_reply, profile_reply}
 use Rattle.calculus.proofs.Rounds.{light_all_state}
+use Rattle.question.specs.declared.Ended.{Ended}
 use Rattle.question.specs.Positions.{Well, formula_at, end_of}
 use Rattle.calculus.proofs.Readings.{accepted_question}
 use Rattle.question.proofs.Questions.{side_read}
@@ -92,25 +93,25 @@ module _ (q : List ℕ) (at : ℕ) (h : Well q at) where
     r : Reads at (bytes (formula_at q at)) (clause_of (formula_at q at)) g
     r = reads at (bytes (formula_at q at)) (clause_of (formula_at q at)) g (e ∙ start_total q at h)
 
-    told : (b : Bool) → several r.clause.positive ≡ b → choose b (Err (ManyPositive at)) (Ok (masks_of r.clause, end_of q at)) ≡ clause_at q at
-    told b f = ap (λ (b : Bool). choose {A = Result (Masks × ℕ) NotClauses} b (Err (ManyPositive at)) (Ok (masks_of r.clause, end_of q at))) (sym f) ∙ sym (ap (λ (o : Math.Option Clause). clause_by o at (end_of q at)) r.is)
+    told : (b : Bool) → several r.clause.positive ≡ b → choose b (Err (ManyPositive at)) (Ok (record { value = masks_of r.clause; end = end_of q at })) ≡ clause_at q at
+    told b f = ap (λ (b : Bool). choose {A = Result (Ended Masks) NotClauses} b (Err (ManyPositive at)) (Ok (record { value = masks_of r.clause; end = end_of q at }))) (sym f) ∙ sym (ap (λ (o : Math.Option Clause). clause_by o at (end_of q at)) r.is)
 
     pub clause_many : 1 < g.count → Err (ManyPositive at) ≡ clause_at q at
     clause_many l = told true (several_long r.clause.positive (omega (arith, r.count)))
 
-    pub clause_single : g.count ≤ 1 → Ok (g.masks, g.at) ≡ clause_at q at
-    clause_single l = ap₂ (λ (m : Masks) (n : ℕ). Ok (m, n)) r.masks r.end ∙ told false (several_short r.clause.positive (omega (arith, r.count)))
+    pub clause_single : g.count ≤ 1 → Ok (record { value = g.masks; end = g.at }) ≡ clause_at q at
+    clause_single l = ap₂ (λ (m : Masks) (n : ℕ). Ok (record { value = m; end = n })) r.masks r.end ∙ told false (several_short r.clause.positive (omega (arith, r.count)))
 
 -- the answers, by the clause of the formula
-data Found (q : List ℕ) (at : ℕ) : Result (Masks × ℕ) NotClauses → Type 0 where
+data Found (q : List ℕ) (at : ℕ) : Result (Ended Masks) NotClauses → Type 0 where
   is_none : clause_of (formula_at q at) ≡ none → Found q at (Err (NotClause at))
   is_many : (c : Clause) → clause_of (formula_at q at) ≡ some c → several c.positive ≡ true → Found q at (Err (ManyPositive at))
-  is_single : (c : Clause) → clause_of (formula_at q at) ≡ some c → several c.positive ≡ false → Found q at (Ok (masks_of c, end_of q at))
+  is_single : (c : Clause) → clause_of (formula_at q at) ≡ some c → several c.positive ≡ false → Found q at (Ok (record { value = masks_of c; end = end_of q at }))
 
 found : (q : List ℕ) (at : ℕ) → Found q at (clause_at q at)
 found q at = go (clause_of (formula_at q at)) refl
   where
-    by : (c : Clause) → clause_of (formula_at q at) ≡ some c → (b : Bool) → several c.positive ≡ b → Found q at (choose b (Err (ManyPositive at)) (Ok (masks_of c, end_of q at)))
+    by : (c : Clause) → clause_of (formula_at q at) ≡ some c → (b : Bool) → several c.positive ≡ b → Found q at (choose b (Err (ManyPositive at)) (Ok (record { value = masks_of c; end = end_of q at })))
     by c f true h = is_many c f h
     by c f false h = is_single c f h
 
@@ -195,28 +196,28 @@ module _ {q : List ℕ} {all : Profile} {n : ℕ} {ms : List Masks} {e i : ℕ} 
   pub storing_stop : (r : NotClauses) → Err r ≡ clause_at q e → profile_reply (all) ≡ reply_of (Err r)
   storing_stop r f = go (clause_at q e) (found q e) f
     where
-      go : (w : Result (Masks × ℕ) NotClauses) → Found q e w → Err r ≡ w → profile_reply (all) ≡ reply_of (Err r)
+      go : (w : Result (Ended Masks) NotClauses) → Found q e w → Err r ≡ w → profile_reply (all) ≡ reply_of (Err r)
       go w (is_none m) f = let j : r ≡ NotClause e = cc in rw j (ap profile_reply (refused NOT_CLAUSE (ap (λ (o : Math.Option Clause). admit e o later) m)))
       go w (is_many c m g) f = let j : r ≡ ManyPositive e = cc in rw j (ap profile_reply (refused MANY_POSITIVE (admitted c true m g)))
       go w (is_single c m g) f = absurd (cc)
 
-  pub storing_next : (m : Masks) (d : ℕ) → Ok (m, d) ≡ clause_at q e → Storing q all n (set ms i m) d (i + 1)
-  storing_next m d f = go (clause_at q e) (found q e) f
+  pub storing_next : (x : Ended Masks) → Ok x ≡ clause_at q e → Storing q all n (set ms i x.value) x.end (i + 1)
+  storing_next x f = go (clause_at q e) (found q e) f
     where
-      go : (w : Result (Masks × ℕ) NotClauses) → Found q e w → Ok (m, d) ≡ w → Storing q all n (set ms i m) d (i + 1)
+      go : (w : Result (Ended Masks) NotClauses) → Found q e w → Ok x ≡ w → Storing q all n (set ms i x.value) x.end (i + 1)
       go w (is_none k) f = absurd (cc)
       go w (is_many c k g) f = absurd (cc)
       go w (is_single c k g) f =
-          let p : ◌≡◌ {A = Masks × ℕ} (m, d) (masks_of c, end_of q e) = cc in
-          let j : m ≡ masks_of c = ap (λ (x : Masks × ℕ). x.0) p in
-          let l : d ≡ end_of q e = ap (λ (x : Masks × ℕ). x.1) p in
+          let p : x ≡ record { value = masks_of c; end = end_of q e } = cc in
+          let j : x.value ≡ masks_of c = ap (λ (y : Ended Masks). y.value) p in
+          let l : x.end ≡ end_of q e = ap (λ (y : Ended Masks). y.end) p in
           let t : n - (i + 1) ≡ n - i - 1 = omega arith in
           rw l (record {
             upto = omega arith;
-            room = length-set ms i m ∙ s.room;
+            room = length-set ms i x.value ∙ s.room;
             done = s.done ++ (c ∷ []);
             stored =
-                rw (add-one i) (take-suc-set ms i m (omega (arith, s.room)) ∙ ap₂ (λ (k : List Masks) (w : Masks). k ++ (w ∷ [])) s.stored j ∙ sym (map-append masks_of s.done (c ∷ [])));
+                rw (add-one i) (take-suc-set ms i x.value (omega (arith, s.room)) ∙ ap₂ (λ (k : List Masks) (w : Masks). k ++ (w ∷ [])) s.stored j ∙ sym (map-append masks_of s.done (c ∷ [])));
             enough = rw t now.due;
             lettered = rw t now_lettered.1;
             same =

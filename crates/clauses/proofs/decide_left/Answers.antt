@@ -30,17 +30,17 @@ loop-clause-init c =
 pub clause_at-requires : goal.clause_at-requires
 clause_at-requires c = storing_well c.loop-clause.invariant (search rules)
 
-pub returns-in_err-clause : goal.returns-in_err-clause
-returns-in_err-clause c =
-    let w = c.in_err-clause in
+pub returns-in_err-next : goal.returns-in_err-next
+returns-in_err-next c =
+    let w = c.in_err-next in
     let h : profile_reply (left_of (question c.args.q.bytes.now)) ≡ reply_of (Err w.field-0.0) =
     storing_stop c.loop-clause.invariant (search rules) w.field-0.0 w.ensures in
     search rules
 
 pub loop-clause-preserved : goal.loop-clause-preserved
 loop-clause-preserved c =
-    let w = c.in_ok-clause in
-    storing_next c.loop-clause.invariant (search rules) w.field-0-0 w.field-0-1 w.ensures
+    let w = c.in_ok-next in
+    storing_next c.loop-clause.invariant (search rules) w.next w.ensures
 
 pub returns : goal.returns
 returns c =
