@@ -242,7 +242,7 @@ fn obey(t: Names<'_>, d: &[u8], s: Running, at: usize) -> Result<Move, Fault>
 }
 
 // The derivation of one sequent, from byte `at` on: where it ends, or its first fault. A fault names its place in the whole
-// derivation, so both go along, and not the bytes from there on.
+// derivation, so both go along, and not the bytes from there on; one value of both would be made anew at each command.
 #[cycle(walk_walk_premise_walk_premises)]
 fn walk(t: Names<'_>, d: &[u8], s: Running, at: usize) -> Result<usize, Fault>
     requires { Good t.nodes.now t.items.now s × Roomy (sequent_of t.nodes.now t.items.now s) × (at ≤ length d.now) }
@@ -259,7 +259,7 @@ fn walk(t: Names<'_>, d: &[u8], s: Running, at: usize) -> Result<usize, Fault>
     }
 }
 
-// A premise of the reduction, made, and its derivation.
+// A premise of the reduction, made, and its derivation (`Running::premise` says why it goes on here).
 #[cycle(walk_walk_premise_walk_premises)]
 fn walk_premise(
     t: Names<'_>,

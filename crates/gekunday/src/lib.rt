@@ -213,7 +213,7 @@ fn unproved_words(v: Verdict) -> Words
     }
 }
 
-// A number with both counts of a verdict.
+// A number with both counts of a verdict, for the same reason no `From`.
 fn counts(number: u32, v: Verdict) -> Words
     ensures { Holds (record { number = number; values = v.reductions ∷ v.closings ∷ [] }) result }
 {

@@ -1,40 +1,27 @@
 -- The letters of a side as bits: what `|` makes of them.
 -- Assumes nothing.
-use Rattle.std.proofs.Common.{◌≡◌, refl, sym, ap, ◌∙◌, List, [], ◌∷◌, ℕ, zero, suc, ◌+◌, ◌/◌, ◌%◌, ◌^◌, max, ◌<◌, pow-suc, arith, bit_or}
+use Rattle.std.proofs.Common.{◌≡◌, refl, sym, ap, ◌∙◌, Bool, true, false, ◌||◌, List, [], ◌∷◌, ℕ, zero, suc, ◌^◌, bit_or}
 use Rattle.std.proofs.Math.Option.{some, none-ne-some}
-use Rattle.std.proofs.lemmas.Nat.{or_shr}
-use Rattle.std.specs.Int.Bits.{or_step, or_zero_l, or_comm}
+use Rattle.std.specs.Int.Bits.{or_zero_l, or_comm}
 use Rattle.std.proofs.Math.ListN.{get_elem?}
 use Rattle.calculus.specs.Fold.{Monoid, fold}
 use Rattle.calculus.specs.Syntax.{Formula, letter, neg, join}
 use Rattle.calculus.specs.Table.{splice}
 use Rattle.calculus.specs.Tree.{letters, state}
+use Rattle.calculus.specs.Truth.{bit}
+use Rattle.calculus.proofs.Bits.{bit_or_lem}
 use Rattle.calculus.proofs.Folds.{fold_append}
+use Rattle.calculus.proofs.States.{bit_ext}
 use Rattle.calculus.proofs.Trees.{light_or}
-
-or_half : (a b : ℕ) → bit_or a b / 2 ≡ bit_or (a / 2) (b / 2)
-or_half a b = or_shr a b 1
-
-or_odd : (a b : ℕ) → bit_or a b % 2 ≡ max (a % 2) (b % 2)
-or_odd a b = let e = or_step a b in omega (arith, e)
-
-or_assoc_by : (n a b c : ℕ) → a < 2 ^ n → b < 2 ^ n → c < 2 ^ n → bit_or (bit_or a b) c ≡ bit_or a (bit_or b c)
-or_assoc_by zero a b c h k l =
-    let x : a ≡ 0 = omega arith in
-    rw x (rw (or_zero_l b, or_zero_l (bit_or b c)))
-or_assoc_by (suc n) a b c h k l =
-    let p = pow-suc 2 n in
-    let ih = or_assoc_by n (a / 2) (b / 2) (c / 2) (omega arith) (omega arith) (omega arith) in
-    or_step (bit_or a b) c ∙ rw (or_half a b, or_odd a b, ih) (sym (or_step a (bit_or b c) ∙ rw (or_half b c, or_odd b c) (omega arith)))
-
-below_pow : (n : ℕ) → n < 2 ^ n
-below_pow zero = omega arith
-below_pow (suc n) = omega (arith, pow-suc 2 n, below_pow n)
 
 pub or_assoc : (a b c : ℕ) → bit_or (bit_or a b) c ≡ bit_or a (bit_or b c)
 or_assoc a b c =
-    let n = a + b + c in
-    or_assoc_by n a b c (omega (arith, below_pow n)) (omega (arith, below_pow n)) (omega (arith, below_pow n))
+    bit_ext (bit_or (bit_or a b) c) (bit_or a (bit_or b c))
+    (λ j. bit_or_lem j (bit_or a b) c ∙ rw (bit_or_lem j a b, bit_or_lem j a (bit_or b c), bit_or_lem j b c) (either (bit j a) (bit j b) (bit j c)))
+  where
+    either : (x y z : Bool) → ((x || y) || z) ≡ (x || (y || z))
+    either true y z = refl
+    either false y z = refl
 
 abbrev pub OR : Monoid ℕ
 OR = record { op = bit_or; unit = 0; unit_left = or_zero_l; assoc = or_assoc; comm = or_comm }

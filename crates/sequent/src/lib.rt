@@ -55,9 +55,10 @@ impl Half {
 }
 
 // A running sequent. The names of its formulas, the left side's and then the right side's, are lent beside it: a letter is named
-// by itself, a compound by its node, above the letters, and equal formulas have one name. That the formulas fit the room is asked
-// by the functions that need it: a ghost field would ask it of `count` and `start` too. A struct of its own and no `Pair<Half>`,
-// since a type of another crate can have no methods here.
+// by itself, a compound by its node, above the letters, and equal formulas have one name. (An enum of both kinds of name takes
+// two bytes, twice what each premise copies.) That the formulas fit the room is asked by the functions that need it: a ghost
+// field would ask it of `count` and `start` too, and no function may ask for more than it did. A struct of its own and no
+// `Pair<Half>`, since a type of another crate can have no methods here.
 #[derive(Clone, Copy)]
 pub struct Running {
     pub left: Half,
@@ -66,7 +67,8 @@ pub struct Running {
 
 // The nodes of a question's compounds and the names of a sequent's formulas. The running sequent stays beside them, and so what
 // holds of all three (`Good`, `Clear`, `Roomy`, `Makes`, at most so many connectives) stays in clauses, here and in the crates
-// above: with the three in one struct `decide` takes 1.08 times as long on small questions, 1.10 of what it took.
+// above: `Good` tells which formulas the names stand for, by how many nodes, and a ghost field takes only facts that have one
+// proof (it was tried).
 #[derive(Clone, Copy)]
 pub struct Names<'a> {
     pub nodes: &'a [u32],
@@ -97,7 +99,7 @@ pub struct Place {
 }
 
 // The compound at a place, by its node. That a node holds a connective's command stays in `requires`: a ghost field would ask it
-// of `command` too, whose callers are asked nothing.
+// of `command` too, whose callers are asked nothing, and no function may ask for more than it did.
 #[derive(Clone, Copy)]
 pub struct Reduction {
     pub place: Place,
@@ -166,7 +168,7 @@ fn rule_of(k: Connective, side: Side) -> &'static [Placing]
 }
 
 impl Reduction {
-    // The command of the compound's connective.
+    // The command of the compound's connective: a node is one word, as naming searches for words.
     pub fn command(self) -> u8
         ensures { result ≡ self.node % 256 }
     {
@@ -411,10 +413,9 @@ impl Running {
         }
     }
 
-    // A premise of a reduction: the names of its two parts go where p says. The list is lent: with list and running sequent in
-    // one value, `derive` takes 1.07 times as long, 1.10 of what it took. Run, writer and checker each go on from a premise by
-    // themselves: a closure in a cycle of calls has to state all that the call inside states, so that one function for the three
-    // would say each contract once more.
+    // A premise of a reduction: the names of its two parts go where p says. The list is lent (fixed memory), and run, writer and
+    // checker each go on from a premise by themselves: a closure in a cycle of calls has to state all that the call inside
+    // states, so that one function for the three would say each contract once more.
     pub fn premise(
         self,
         old: &[u8; ROOM],

@@ -12,8 +12,7 @@ ghost use Rattle.width.specs.Walks.{Fit, exchanged, joined, walk_of, product_of}
 ghost use Rattle.width.specs.Answers.{width_of, Sized};
 
 use calculus::Pair;
-pub use question::{Binary, Connective, NoConnective};
-use question::{Formulas, Question, Refusal};
+use question::{Binary, Connective, Formulas, Question, Refusal};
 
 // The pair of the negation of a formula, whose pair this is: the widths on the left and on the right.
 pub fn exchanged(f: Pair<u64>) -> Pair<u64>

@@ -91,7 +91,7 @@ fn emit(t: Names<'_>, s: Running, from: usize, out: &mut [u8]) -> usize
     }
 }
 
-// A premise of the reduction, made, and its derivation.
+// A premise of the reduction, made, and its derivation (`Running::premise` says why it goes on here).
 #[cycle(emit_emit_premise_emit_premises)]
 fn emit_premise(
     t: Names<'_>,
