@@ -144,15 +144,16 @@ module _ (S : Sequent) (w : Within S) (R old : List ℕ) (l : Loaded) (a : Loads
   room = omega (arith, b.count, length-append S.on_left S.on_right, w.lefts, w.rights)
 
   -- the names of the two sides
-  names : (t : Side) → NamesAll T (on_side t (view (running l r) items)) (on_side t S)
-  names t = go t
-    where
-      both : NamesAll T (take l.half.count items) S.on_left × NamesAll T (take r.half.count (drop l.half.count items)) S.on_right
-      both = names_split T (take l.half.count items) (take r.half.count (drop l.half.count items)) S.on_left S.on_right (length-take-le l.half.count items (omega (arith, room, b.room)) ∙ omega (arith, a.count)) (subst (λ (ds : List ℕ). NamesAll T ds (S.on_left ++ S.on_right)) (take-add l.half.count r.half.count items) b.names)
+  both : NamesAll T (take l.half.count items) S.on_left × NamesAll T (take r.half.count (drop l.half.count items)) S.on_right
+  both =
+      let lefts = take l.half.count items in
+      let rights = take r.half.count (drop l.half.count items) in
+      let n : length lefts ≡ length S.on_left = length-take-le l.half.count items (omega (arith, room, b.room)) ∙ omega (arith, a.count) in
+      names_split T lefts rights S.on_left S.on_right n (subst (λ (ds : List ℕ). NamesAll T ds (S.on_left ++ S.on_right)) (take-add l.half.count r.half.count items) b.names)
 
-      go : (t : Side) → NamesAll T (on_side t (view (running l r) items)) (on_side t S)
-      go Left = both.0
-      go Right = both.1
+  names : (t : Side) → NamesAll T (on_side t (view (running l r) items)) (on_side t S)
+  names Left = both.0
+  names Right = both.1
 
   right_part : slice l.half.count (l.half.count + r.half.count) items ≡ take r.half.count (drop l.half.count items)
   right_part = sym (take_drop l.half.count r.half.count items (omega (arith, room, b.room)))
