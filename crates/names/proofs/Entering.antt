@@ -2,8 +2,7 @@
 -- Assumes nothing.
 use mathlib.Core.Path.{◌≡◌, refl, sym, ap, ◌∙◌, subst}
 use mathlib.Core.List.{List, [], ◌∷◌, ◌++◌, map}
-use Prim.Native.Nat.{ℕ, ◌+◌, ◌≤◌, ◌<◌}
-use native.Mathlib.Numerals.{add-one}
+use Prim.Native.Nat.{ℕ, suc, ◌+◌, ◌≤◌, ◌<◌}
 use native.Mathlib.Omega.{arith}
 use lib.Bits.{bit_or, or_zero_r}
 use lib.ListN.{length, take, drop, set, length-append, length-set}
@@ -12,83 +11,90 @@ use Rattle.calculus.specs.Fold.{SUM, Each}
 use Rattle.calculus.specs.Limits.{CONNECTIVES}
 use Rattle.calculus.specs.Syntax.{Formula, connectives}
 use Rattle.calculus.proofs.Folds.{fold_append}
+use Rattle.question.specs.declared.Ended.{Ended}
 use Rattle.question.specs.Positions.{formula_at}
+use Rattle.sequent.specs.declared.Half.{Half}
 use Rattle.sequent.specs.Names.{formula_in, Known}
-use Rattle.sequent.specs.View.{bits_by, bit_of, compound_bit}
+use Rattle.sequent.specs.View.{bits_by, bit_of, compound_bit, grown}
 use Rattle.sequent.proofs.Namings.{told_formula}
 use Rattle.sequent.proofs.Letters.{bits_append}
-use Rattle.names.specs.declared.Numbering.{Numbering}
-use Rattle.names.specs.declared.Named.{Named}
 use Rattle.names.specs.declared.Loaded.{Loaded}
 use Rattle.names.specs.Loads.{Kept, Numbered, NamesAll, Loads, Enters}
 use Rattle.names.proofs.Naming.{tells_kept}
 
 -- ---- names of formulas
 
-module _ (a : Numbering) where
-  names_append : (ds es : List ℕ) (xs ys : List Formula) → NamesAll a ds xs → NamesAll a es ys → NamesAll a (ds ++ es) (xs ++ ys)
+module _ (T : List ℕ) where
+  names_append : (ds es : List ℕ) (xs ys : List Formula) → NamesAll T ds xs → NamesAll T es ys → NamesAll T (ds ++ es) (xs ++ ys)
   names_append [] es [] ys h k = k
   names_append [] es (x ∷ xs) ys h k = absurd h
   names_append (d ∷ ds) es [] ys h k = absurd h
   names_append (d ∷ ds) es (x ∷ xs) ys h k = (h.0, h.1, names_append ds es xs ys h.2 k)
 
-  pub names_split : (ds es : List ℕ) (xs ys : List Formula) → length ds ≡ length xs → NamesAll a (ds ++ es) (xs ++ ys) → NamesAll a ds xs × NamesAll a es ys
+  pub names_split : (ds es : List ℕ) (xs ys : List Formula) → length ds ≡ length xs → NamesAll T (ds ++ es) (xs ++ ys) → NamesAll T ds xs × NamesAll T es ys
   names_split [] es [] ys e h = (tt, h)
   names_split [] es (x ∷ xs) ys e h = absurd (omega arith)
   names_split (d ∷ ds) es [] ys e h = absurd (omega arith)
   names_split (d ∷ ds) es (x ∷ xs) ys e h = let k = names_split ds es xs ys (omega arith) h.2 in ((h.0, h.1, k.0), k.1)
 
-  pub names_known : (ds : List ℕ) (xs : List Formula) → NamesAll a ds xs → Each (Known a.nodes a.count) ds
+  pub names_known : (ds : List ℕ) (xs : List Formula) → NamesAll T ds xs → Each (Known T (length T)) ds
   names_known [] [] h = tt
   names_known [] (x ∷ xs) h = absurd h
   names_known (d ∷ ds) [] h = absurd h
   names_known (d ∷ ds) (x ∷ xs) h = (record { formula = x; tells = h.0; below = h.1 }, names_known ds xs h.2)
 
-  pub names_formulas : length a.nodes ≡ CONNECTIVES → a.count ≤ CONNECTIVES → (ds : List ℕ) (xs : List Formula) → NamesAll a ds xs → map (formula_in a.nodes) ds ≡ xs
-  names_formulas f l [] [] h = refl
-  names_formulas f l [] (x ∷ xs) h = absurd h
-  names_formulas f l (d ∷ ds) [] h = absurd h
-  names_formulas f l (d ∷ ds) (x ∷ xs) h =
-      let p = told_formula a.nodes f d x h.0 (omega (arith, h.1)) in
-      λ j. p j ∷ names_formulas f l ds xs h.2 j
+  pub names_formulas : length T ≤ CONNECTIVES → (ds : List ℕ) (xs : List Formula) → NamesAll T ds xs → map (formula_in T) ds ≡ xs
+  names_formulas f [] [] h = refl
+  names_formulas f [] (x ∷ xs) h = absurd h
+  names_formulas f (d ∷ ds) [] h = absurd h
+  names_formulas f (d ∷ ds) (x ∷ xs) h =
+      let p = told_formula T f d x h.0 h.1 in
+      λ j. p j ∷ names_formulas f ds xs h.2 j
 
 -- nodes that stay tell the same
-names_kept : (a b : Numbering) → a.count ≤ b.count → Kept a b → (ds : List ℕ) (xs : List Formula) → NamesAll a ds xs → NamesAll b ds xs
-names_kept a b l k [] [] h = tt
-names_kept a b l k [] (x ∷ xs) h = absurd h
-names_kept a b l k (d ∷ ds) [] h = absurd h
-names_kept a b l k (d ∷ ds) (x ∷ xs) h = (tells_kept a b k x d h.1 h.0, omega (arith, h.1), names_kept a b l k ds xs h.2)
+names_kept : (T R : List ℕ) → length T ≤ length R → Kept T R → (ds : List ℕ) (xs : List Formula) → NamesAll T ds xs → NamesAll R ds xs
+names_kept T R l k [] [] h = tt
+names_kept T R l k [] (x ∷ xs) h = absurd h
+names_kept T R l k (d ∷ ds) [] h = absurd h
+names_kept T R l k (d ∷ ds) (x ∷ xs) h = (tells_kept T R k x d h.1 h.0, omega (arith, h.1), names_kept T R l k ds xs h.2)
 
 -- ---- a formula more
 
 more_bits : (β : ℕ → ℕ) (d m : ℕ) (ds es : List ℕ) → m ≡ bits_by β ds → es ≡ ds ++ (d ∷ []) → bit_or m (β d) ≡ bits_by β es
 more_bits β d m ds es h e = rw (h, e, bits_append β ds (d ∷ []), or_zero_r (β d))
 
-module _ (q : List ℕ) (T R : Numbering) (items : List ℕ) (first : ℕ) (l : Loaded) (xs : List Formula) (h : Loads T items first l xs) (e : Enters q l xs) (f : Named) (t : Numbered q l.end T R f) where
-  inside : l.places < length items
+module _ (q T R items : List ℕ) (first : ℕ) (l : Loaded) (xs : List Formula) (h : Loads T items first l xs) (e : Enters q l xs) (f : Ended ℕ) (t : Numbered q l.end T R f) where
+  abbrev place : ℕ
+  place = first + l.half.count
+
+  abbrev filled : List ℕ
+  filled = set items place f.value
+
+  inside : place < length items
   inside = omega (arith, h.count, h.room, e.room)
 
-  take_more : take (l.places + 1) (set items l.places f.name) ≡ take l.places items ++ (f.name ∷ [])
-  take_more = rw (add-one l.places) (take-suc-set items l.places f.name inside)
+  next : first + (l.half.count + 1) ≡ suc place
+  next = omega arith
 
-  slice_more : slice first (l.places + 1) (set items l.places f.name) ≡ slice first l.places items ++ (f.name ∷ [])
-  slice_more =
-      ap (drop first) take_more ∙ drop-append-le first (take l.places items) (f.name ∷ []) (omega (arith, h.inside, length-take-le l.places items (omega (arith, inside))))
+  take_more : take (first + (l.half.count + 1)) filled ≡ take place items ++ (f.value ∷ [])
+  take_more = rw next (take-suc-set items place f.value inside)
 
-  pub entered : (a b : ℕ) → a ≡ bit_of f.name → b ≡ compound_bit f.name
-      → Loads R (set items l.places f.name) first (record { places = l.places + 1; mask = bit_or l.mask a; set = bit_or l.set b; end = f.end }) (xs ++ (formula_at q l.end ∷ []))
-  entered a b i j =
+  slice_more : slice first (first + (l.half.count + 1)) filled ≡ slice first place items ++ (f.value ∷ [])
+  slice_more = ap (drop first) take_more ∙ drop-append-le first (take place items) (f.value ∷ []) (omega (arith, length-take-le place items (omega (arith, inside))))
+
+  pub entered : (r : Half) → r ≡ grown f.value l.half
+      → Loads R (set items (first + l.half.count) f.value) first (record { half = record { count = l.half.count + 1; mask = r.mask; set = r.set }; end = f.end }) (xs ++ (formula_at q l.end ∷ []))
+  entered r i =
       let x = formula_at q l.end in
-      let k = names_kept T R t.more t.kept (take l.places items) xs h.names in
-      let n = names_append R (take l.places items) (f.name ∷ []) xs (x ∷ []) k (t.tells, t.below, tt) in
+      let k = names_kept T R t.more t.kept (take place items) xs h.names in
+      let n = names_append R (take place items) (f.value ∷ []) xs (x ∷ []) k (t.tells, t.below, tt) in
+      let slices = slice first (first + (l.half.count + 1)) filled in
       record {
-        size = t.size ∙ h.size;
-        room = length-set items l.places f.name ∙ h.room;
+        room = length-set items place f.value ∙ h.room;
         nodes = t.nodes;
         few = omega (arith, h.few, t.few, fold_append SUM connectives xs (x ∷ []));
         count = omega (arith, h.count, length-append xs (x ∷ []));
         names = subst (λ (ds : List ℕ). NamesAll R ds (xs ++ (x ∷ []))) (sym take_more) n;
-        mask = rw i (more_bits bit_of f.name l.mask (slice first l.places items) (slice first (l.places + 1) (set items l.places f.name)) h.mask slice_more);
-        set = rw j (more_bits compound_bit f.name l.set (slice first l.places items) (slice first (l.places + 1) (set items l.places f.name)) h.set slice_more);
-        inside = omega (arith, h.inside);
+        mask = ap (λ (r : Half). r.mask) i ∙ more_bits bit_of f.value l.half.mask (slice first place items) slices h.mask slice_more;
+        set = ap (λ (r : Half). r.set) i ∙ more_bits compound_bit f.value l.half.set (slice first place items) slices h.set slice_more;
       }

@@ -2,11 +2,12 @@
 -- Assumes nothing.
 use mathlib.Core.Path.{◌≡◌, refl, sym, ap, ◌∙◌, subst}
 use mathlib.Core.List.{List, [], ◌∷◌, ◌++◌, append_assoc}
-use Prim.Native.Nat.{ℕ, zero, suc, ◌+◌, ◌-◌, ◌*◌, ◌≤◌, ◌<◌}
+use Prim.Native.Nat.{ℕ, zero, suc, ◌+◌, ◌*◌, ◌≤◌, ◌<◌}
 use native.Mathlib.Numerals.{add-one}
 use native.Mathlib.Omega.{arith}
+use Rattle.std.proofs.Common.{add-zero}
 use lib.ListN.{length, take, drop, length-append}
-use lib.Seq.{slice, take-take, take-add, length-take-le}
+use lib.Seq.{slice, slice_empty, take-take, take-add, length-take-le}
 use Rattle.calculus.specs.declared.Side.{Side}
 use Rattle.calculus.specs.declared.Side.TheVariants.{Left, Right}
 use Rattle.calculus.specs.Fold.{fold, SUM, Each}
@@ -22,9 +23,8 @@ use Rattle.sequent.specs.declared.Running.{Running}
 use Rattle.sequent.specs.View.{view, set_of, sequent_of, letters_of, compounds_of, Masked, Good}
 use Rattle.sequent.proofs.Premises.{take_drop}
 use Rattle.sequent.proofs.Sets.{members}
-use Rattle.names.specs.declared.Numbering.{Numbering}
 use Rattle.names.specs.declared.Loaded.{Loaded}
-use Rattle.names.specs.Loads.{NamesAll, Loads, Enters, before}
+use Rattle.names.specs.Loads.{NamesAll, none_yet, Loads, Enters, before}
 use Rattle.names.proofs.Entering.{names_split, names_known, names_formulas}
 
 -- ---- the next formula of a side
@@ -75,20 +75,20 @@ whole_size S w = omega (arith, ones S.on_left, ones S.on_right, w.lefts, w.right
 -- ---- a side of an accepted question
 
 -- it has n formulas, and none of them has come
-pub record Starts (q : List ℕ) (a : Numbering) (items : List ℕ) (start : Loaded) (n : ℕ) (u : Side) : Type 0 where
+pub record Starts (q T items : List ℕ) (first start n : ℕ) (u : Side) : Type 0 where
   pub read : reading q ≡ accepted
   pub count : n ≡ length (on_side u (question q))
-  pub begins : start.end ≡ side_start u (question q)
-  pub loads : Loads a items start.places start (before u (question q))
+  pub begins : start ≡ side_start u (question q)
+  pub loads : Loads T items first (none_yet start) (before u (question q))
 
 -- its first i formulas have come
-pub record Filled (q old : List ℕ) (start : Loaded) (u : Side) (a : Numbering) (items : List ℕ) (l : Loaded) (i : ℕ) : Type 0 where
+pub record Filled (q old : List ℕ) (first : ℕ) (u : Side) (T items : List ℕ) (l : Loaded) (i : ℕ) : Type 0 where
   pub ends : l.end ≡ start_of u i (question q)
-  pub loads : Loads a items start.places l (up_to u i (question q))
-  pub kept : take start.places items ≡ take start.places old
+  pub loads : Loads T items first l (up_to u i (question q))
+  pub kept : take first items ≡ take first old
 
-module _ (q : List ℕ) (T₀ : Numbering) (old : List ℕ) (start : Loaded) (n : ℕ) (u : Side) (s : Starts q T₀ old start n u) where
-  module _ (T : Numbering) (items : List ℕ) (l : Loaded) (i : ℕ) (f : Filled q old start u T items l i) (h : i < n) where
+module _ (q T₀ old : List ℕ) (first start n : ℕ) (u : Side) (s : Starts q T₀ old first start n u) where
+  module _ (T items : List ℕ) (l : Loaded) (i : ℕ) (f : Filled q old first u T items l i) (h : i < n) where
     inside : i < length (on_side u (question q))
     inside = omega (arith, s.count)
 
@@ -106,75 +106,82 @@ module _ (q : List ℕ) (T₀ : Numbering) (old : List ℕ) (start : Loaded) (n 
           room = omega (arith, next_sum S u i inside (λ x. 1), whole_size S w, ones (up_to u i S));
         }
 
-    pub filled_next : (R : Numbering) (new : List ℕ) (r : Loaded) → Loads R new start.places r (up_to u i (question q) ++ (formula_at q l.end ∷ []))
-        → take l.places new ≡ take l.places items → r.end ≡ end_of q l.end → Filled q old start u R new r (i + 1)
+    pub filled_next : (R new : List ℕ) (r : Loaded) → Loads R new first r (up_to u i (question q) ++ (formula_at q l.end ∷ []))
+        → take (first + l.half.count) new ≡ take (first + l.half.count) items → r.end ≡ end_of q l.end → Filled q old first u R new r (i + 1)
     filled_next R new r k t e =
         let S = question q in
+        let places = first + l.half.count in
+        let m : first ≤ places = omega arith in
         let d : up_to u i S ++ (formula_at q l.end ∷ []) ≡ up_to u (i + 1) S
         = rw (next, add-one i, take_next (on_side u S) i inside) (append_assoc (before u S) (take i (on_side u S)) (first_of (drop i (on_side u S)) ∷ [])) in
         record {
           ends = e ∙ rw (next, f.ends, add-one i) (omega (arith, bytes_next (on_side u S) i inside));
-          loads = subst (Loads R new start.places r) d k;
-          kept = sym (take-take start.places l.places new f.loads.inside) ∙ ap (take start.places) t ∙ take-take start.places l.places items f.loads.inside ∙ f.kept;
+          loads = subst (Loads R new first r) d k;
+          kept = sym (take-take first places new m) ∙ ap (take first) t ∙ take-take first places items m ∙ f.kept;
         }
 
 -- ---- both sides
 
-abbrev running : Loaded → Loaded → Running
-running l r = record { left = record { count = l.places; mask = l.mask; set = l.set }; right = record { count = r.places - l.places; mask = r.mask; set = r.set } }
+-- once the left side's formulas have come, none of the right side's has
+pub right_begins : (S : Sequent) (T items : List ℕ) (l : Loaded) (start : ℕ) → Loads T items 0 l S.on_left → Loads T items l.half.count (none_yet start) S.on_left
+right_begins S T items l start h =
+    let n : l.half.count + 0 ≡ 0 + l.half.count = omega arith in
+    let e : [] ≡ slice l.half.count (l.half.count + 0) items = rw (add-zero l.half.count) (sym (slice_empty l.half.count items)) in
+    record { room = h.room; nodes = h.nodes; few = h.few; count = n ∙ h.count; names = rw n h.names; mask = ap letters_of e; set = ap compounds_of e }
 
-module _ (S : Sequent) (w : Within S) (R : Numbering) (old : List ℕ) (l : Loaded) (a : Loads R old 0 l S.on_left)
-    (T : Numbering) (items : List ℕ) (r : Loaded) (b : Loads T items l.places r (S.on_left ++ S.on_right)) (k : take l.places items ≡ take l.places old) where
-  few : T.count ≤ CONNECTIVES
+abbrev running : Loaded → Loaded → Running
+running l r = record { left = l.half; right = r.half }
+
+module _ (S : Sequent) (w : Within S) (R old : List ℕ) (l : Loaded) (a : Loads R old 0 l S.on_left)
+    (T items : List ℕ) (r : Loaded) (b : Loads T items l.half.count r (S.on_left ++ S.on_right)) (k : take l.half.count items ≡ take l.half.count old) where
+  few : length T ≤ CONNECTIVES
   few = omega (arith, b.few, fold_append SUM connectives S.on_left S.on_right, w.connectives)
 
-  room : r.places ≤ 2 * FORMULAS
+  none : 0 + l.half.count ≡ l.half.count
+  none = omega arith
+
+  room : l.half.count + r.half.count ≤ 2 * FORMULAS
   room = omega (arith, b.count, length-append S.on_left S.on_right, w.lefts, w.rights)
 
-  counted : l.places + (r.places - l.places) ≡ r.places
-  counted = omega (arith, b.inside)
-
   -- the names of the two sides
+  both : NamesAll T (take l.half.count items) S.on_left × NamesAll T (take r.half.count (drop l.half.count items)) S.on_right
+  both =
+      let lefts = take l.half.count items in
+      let rights = take r.half.count (drop l.half.count items) in
+      let n : length lefts ≡ length S.on_left = length-take-le l.half.count items (omega (arith, room, b.room)) ∙ omega (arith, a.count) in
+      names_split T lefts rights S.on_left S.on_right n (subst (λ (ds : List ℕ). NamesAll T ds (S.on_left ++ S.on_right)) (take-add l.half.count r.half.count items) b.names)
+
   names : (t : Side) → NamesAll T (on_side t (view (running l r) items)) (on_side t S)
-  names t = go t
-    where
-      split : take r.places items ≡ take l.places items ++ take (r.places - l.places) (drop l.places items)
-      split = ap (λ (n : ℕ). take n items) (sym counted) ∙ take-add l.places (r.places - l.places) items
+  names Left = both.0
+  names Right = both.1
 
-      both : NamesAll T (take l.places items) S.on_left × NamesAll T (take (r.places - l.places) (drop l.places items)) S.on_right
-      both = names_split T (take l.places items) (take (r.places - l.places) (drop l.places items)) S.on_left S.on_right (length-take-le l.places items (omega (arith, b.inside, room, b.room)) ∙ a.count) (subst (λ (ds : List ℕ). NamesAll T ds (S.on_left ++ S.on_right)) split b.names)
-
-      go : (t : Side) → NamesAll T (on_side t (view (running l r) items)) (on_side t S)
-      go Left = both.0
-      go Right = both.1
-
-  right_part : slice l.places r.places items ≡ take (r.places - l.places) (drop l.places items)
-  right_part = sym (take_drop l.places (r.places - l.places) items (omega (arith, b.inside, room, b.room)) ∙ ap (λ (n : ℕ). slice l.places n items) counted)
+  right_part : slice l.half.count (l.half.count + r.half.count) items ≡ take r.half.count (drop l.half.count items)
+  right_part = sym (take_drop l.half.count r.half.count items (omega (arith, room, b.room)))
 
   masks : Masked (running l r) items
-  masks Left = a.mask ∙ ap letters_of (sym k)
+  masks Left = rw none at a.mask ∙ ap letters_of (sym k)
   masks Right = b.mask ∙ ap letters_of right_part
 
   compounds : (t : Side) → set_of t (running l r) ≡ compounds_of (on_side t (view (running l r) items))
-  compounds Left = a.set ∙ ap compounds_of (sym k)
+  compounds Left = rw none at a.set ∙ ap compounds_of (sym k)
   compounds Right = b.set ∙ ap compounds_of right_part
 
-  pub all_loaded : Good T.nodes items (running l r) × (sequent_of T.nodes items (running l r) ≡ S)
+  pub all_loaded : Good T items (running l r) × (sequent_of T items (running l r) ≡ S)
   all_loaded =
       let N = view (running l r) items in (
         record {
-          nodes = b.size;
+          nodes = few;
           places = b.room;
-          room = omega (arith, counted, room);
-          used = T.count;
-          few = few;
+          room = omega (arith, room);
+          used = length T;
+          few = omega arith;
           distinct = b.nodes.distinct;
           known = λ t. names_known T (on_side t N) (on_side t S) (names t);
           masks = masks;
           sets = λ t. rw (compounds t) (members (on_side t N));
         },
         (λ j. record {
-          on_left = names_formulas T b.size few N.on_left S.on_left (names Left) j;
-          on_right = names_formulas T b.size few N.on_right S.on_right (names Right) j;
+          on_left = names_formulas T few N.on_left S.on_left (names Left) j;
+          on_right = names_formulas T few N.on_right S.on_right (names Right) j;
         }),
       )

@@ -35,7 +35,7 @@ pub struct Loaded {
 
 impl Lists {
     pub fn new() -> Lists
-        ensures { (result.numbering ≡ record { nodes = replicate CONNECTIVES 0; count = 0 }) × (result.items ≡ replicate Limits.ROOM 0) }
+        ensures { (result.nodes.items ≡ []) × (result.items ≡ replicate Limits.ROOM 0) }
     {
         Lists {
             nodes: ArrayVec::new(),
@@ -45,7 +45,7 @@ impl Lists {
 
     // The same, lent.
     pub fn names(&self) -> Names<'_>
-        ensures { (result.nodes.now ≡ self.now.numbering.nodes) × (result.items.now ≡ self.now.items) }
+        ensures { (result.nodes.now ≡ self.now.nodes.items) × (result.items.now ≡ self.now.items) }
     {
         Names {
             nodes: self.nodes.as_slice(),
@@ -70,12 +70,11 @@ fn name(n: usize) -> u8
 
 // The name of the compound that has a node: that of an equal node, or the next.
 fn note(nodes: &mut ArrayVec<u32, ALL_CONNECTIVES>, w: u32) -> u8
-    requires { (numbering.old.count < CONNECTIVES)
-        × (length numbering.old.nodes ≡ CONNECTIVES)
-        × Nodes numbering.old
-        × (first_of w < Limits.LETTERS + numbering.old.count)
-        × (second_of w < Limits.LETTERS + numbering.old.count) }
-    ensures { Noted w end numbering.old numbering.new result }
+    requires { (length nodes.old.items < CONNECTIVES)
+        × Nodes nodes.old.items
+        × (first_of w < Limits.LETTERS + length nodes.old.items)
+        × (second_of w < Limits.LETTERS + length nodes.old.items) }
+    ensures { Noted w nodes.old.items nodes.new.items result }
 {
     if let Some(i) = nodes.as_slice().iter().position(|x| *x == w) {
         return name(i);
@@ -88,8 +87,8 @@ fn note(nodes: &mut ArrayVec<u32, ALL_CONNECTIVES>, w: u32) -> u8
 // Names the formula at a position, and notes the nodes of its compounds.
 #[cycle(number_number_parts)]
 fn number(q: &[u8], nodes: &mut ArrayVec<u32, ALL_CONNECTIVES>, at: usize) -> Ended<u8>
-    requires { Numbers q.now at numbering.old }
-    ensures { Numbered q.now at numbering.old numbering.new result }
+    requires { Numbers q.now at nodes.old.items }
+    ensures { Numbered q.now at nodes.old.items nodes.new.items result }
 {
     match Connective::try_from(q[at]) {
         Ok(k) => number_parts(q, nodes, at, k),
@@ -108,8 +107,8 @@ fn number_parts(
     at: usize,
     k: Connective,
 ) -> Ended<u8>
-    requires { Numbers q.now at numbering.old × (get_or q.now at 0 ≡ command_of k) }
-    ensures { Numbered q.now at numbering.old numbering.new result }
+    requires { Numbers q.now at nodes.old.items × (get_or q.now at 0 ≡ command_of k) }
+    ensures { Numbered q.now at nodes.old.items nodes.new.items result }
 {
     let f = number(q, nodes, at + 1);
     let g = match k {
@@ -124,11 +123,11 @@ fn number_parts(
 
 // The next formula of a side.
 fn enter(q: &[u8], lists: &mut Lists, first: usize, l: Loaded) -> Loaded
-    requires { (first : ℕ) × (xs : List Formula) × Loads numbering.old items.old first l xs × Enters q.now l xs }
-    ensures { ((first : ℕ) (xs : List Formula) → Loads numbering.old items.old first l xs
+    requires { (xs : List Formula) × Loads lists.old.nodes.items lists.old.items first l xs × Enters q.now l xs }
+    ensures { ((xs : List Formula) → Loads lists.old.nodes.items lists.old.items first l xs
         → Enters q.now l xs
-        → Loads numbering.new items.new first result (xs ++ (formula_at q.now l.end ∷ [])))
-        × (take l.places items.new ≡ take l.places items.old)
+        → Loads lists.new.nodes.items lists.new.items first result (xs ++ (formula_at q.now l.end ∷ [])))
+        × (take (first + l.half.count) lists.new.items ≡ take (first + l.half.count) lists.old.items)
         × (result.end ≡ end_of q.now l.end) }
 {
     let f = number(q, &mut lists.nodes, l.end);
@@ -143,11 +142,11 @@ fn enter(q: &[u8], lists: &mut Lists, first: usize, l: Loaded) -> Loaded
     }
 }
 
-// The formulas of a side of an accepted question, where so many places are in use.
+// The formulas of a side of an accepted question, behind the first so many places.
 fn load(xs: Formulas<'_>, lists: &mut Lists, first: usize) -> Loaded
-    requires { Loads numbering.old items.old places (none_yet places xs.start) (before xs.side (question xs.q.bytes.now)) }
-    ensures { let S = question xs.entry.q.bytes.now in let ys = on_side xs.entry.side S in Loads numbering.new items.new places result (before xs.entry.side S ++ ys)
-        × (take places items.new ≡ take places items.old)
+    requires { Loads lists.old.nodes.items lists.old.items first (none_yet xs.start) (before xs.side (question xs.q.bytes.now)) }
+    ensures { let S = question xs.entry.q.bytes.now in let ys = on_side xs.entry.side S in Loads lists.new.nodes.items lists.new.items first result (before xs.entry.side S ++ ys)
+        × (take first lists.new.items ≡ take first lists.old.items)
         × (result.end ≡ xs.entry.start + bytes_all ys) }
 {
     let n = xs.count();
@@ -163,8 +162,8 @@ fn load(xs: Formulas<'_>, lists: &mut Lists, first: usize) -> Loaded
 
 // The running sequent of an accepted question, its nodes and its places.
 pub fn root(q: Question<'_>, lists: &mut Lists) -> Running
-    ensures { Good lists.new.numbering.nodes lists.new.items result
-        × (sequent_of lists.new.numbering.nodes lists.new.items result ≡ question q.entry.bytes.now) }
+    ensures { Good lists.new.nodes.items lists.new.items result
+        × (sequent_of lists.new.nodes.items lists.new.items result ≡ question q.entry.bytes.now) }
 {
     lists.nodes.clear();
     let l = load(q.left(), lists, 0);

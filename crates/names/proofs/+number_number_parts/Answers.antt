@@ -1,53 +1,42 @@
-use Rattle.std.proofs.Common.{◌+◌, ◌∙◌, arith}
+use Rattle.std.proofs.Common.{ℕ, ◌+◌, arith}
 use Rattle.question.proofs.Parts.{end_onward}
 use Rattle.question.proofs.Walks.{well_inside}
-use Rattle.names.proofs.Naming.{number_letter, first_enters, not_room, not_lower, number_not, second_enters, two_room, two_lower, number_two}
+use Rattle.names.proofs.Naming.{Parts, number_letter, first_enters, not_parts, second_enters, two_parts}
 use Rattle.names.proofs.+number_number_parts.Goals as goal
+use Rattle.names.proofs.+number_number_parts.Goals.{number_parts-After-node, number_parts-in-Not, number_parts-in-Two}
 
 pub number-returns-in-Err : goal.number-returns-in-Err
-number-returns-in-Err t c = number_letter c.args.q.now c.args.at c.args.numbering.now c.requires c.in-Err.ensures
+number-returns-in-Err t c = number_letter c.args.q.now c.args.at c.args.nodes.now.items c.requires c.in-Err.ensures
 
 pub number_parts-number-f-requires : goal.number_parts-number-f-requires
 number_parts-number-f-requires t c =
     let a = c.args in
     let h = c.requires in
-    (omega (arith, c.decreases, well_inside a.q.now a.at h.0.well), first_enters a.q.now a.at a.numbering.now h.0 a.k h.1)
-
-pub number_parts-note-requires : goal.number_parts-note-requires
-number_parts-note-requires t c =
-    let a = c.args in
-    let h = c.requires in
-    let f = c.number-f in
-    let l = not_lower a.q.now a.at a.numbering.now h.0 a.k h.1 f.result f.new.numbering f.ensures c.in-Not.is c.node.result c.node.ensures in
-    (not_room a.q.now a.at a.numbering.now h.0 a.k h.1 f.result f.new.numbering f.ensures, f.ensures.size ∙ h.0.size, f.ensures.nodes, l.0, l.1)
-
-pub number_parts-returns-in-Not : goal.number_parts-returns-in-Not
-number_parts-returns-in-Not t c =
-    let a = c.args in
-    let h = c.requires in
-    let f = c.number-f in
-    number_not a.q.now a.at a.numbering.now h.0 a.k h.1 f.result f.new.numbering f.ensures c.in-Not.is c.node.result c.node.ensures c.note.new.numbering c.note.result c.note.ensures
+    (omega (arith, c.decreases, well_inside a.q.now a.at h.0.well), first_enters a.q.now a.at a.nodes.now.items h.0 a.k h.1)
 
 pub number_parts-number-g-requires : goal.number_parts-number-g-requires
 number_parts-number-g-requires t c =
     let a = c.args in
     let h = c.requires in
     let f = c.number-f in
-    (omega (arith, c.decreases, well_inside a.q.now a.at h.0.well, f.ensures.end, end_onward a.q.now (a.at + 1)), second_enters a.q.now a.at a.numbering.now h.0 a.k h.1 f.result f.new.numbering f.ensures _ c.in-Two.is)
+    (omega (arith, c.decreases, well_inside a.q.now a.at h.0.well, f.ensures.end, end_onward a.q.now (a.at + 1)), second_enters a.q.now a.at a.nodes.now.items h.0 a.k h.1 f.result f.new.nodes.items f.ensures _ c.in-Two.is)
 
-pub number_parts-note-requires-in-Two : goal.number_parts-note-requires-in-Two
-number_parts-note-requires-in-Two t c =
+-- the parts are named
+parts : (t : ℕ) (c : goal.number_parts-After-node t) → Parts c.args.q.now c.args.at c.args.nodes.now.items c.match-k.nodes.items c.node.result c.match-k.g.end
+parts t c =
     let a = c.args in
     let h = c.requires in
     let f = c.number-f in
-    let g = c.number-g in
-    let l = two_lower a.q.now a.at a.numbering.now h.0 a.k h.1 f.result f.new.numbering f.ensures _ c.in-Two.is g.result g.new.numbering g.ensures c.node-in-Two.result c.node-in-Two.ensures in
-    (two_room a.q.now a.at a.numbering.now h.0 a.k h.1 f.result f.new.numbering f.ensures _ c.in-Two.is g.result g.new.numbering g.ensures, g.ensures.size ∙ f.ensures.size ∙ h.0.size, g.ensures.nodes, l.0, l.1)
+    elim c.match-k.branch [
+      | number_parts-in-Not w ↦ rw (w.nodes-is, w.g-is) (not_parts a.q.now a.at a.nodes.now.items h.0 a.k h.1 f.result f.new.nodes.items f.ensures w.in-Not.is c.node.result (rw w.g-is at c.node.ensures))
+      | number_parts-in-Two w ↦ let g = w.number-g in
+          rw (w.nodes-is, w.g-is) (two_parts a.q.now a.at a.nodes.now.items h.0 a.k h.1 f.result f.new.nodes.items f.ensures _ w.in-Two.is g.result g.new.nodes.items g.ensures c.node.result (rw w.g-is at c.node.ensures))
+    ]
 
-pub number_parts-returns-in-Two : goal.number_parts-returns-in-Two
-number_parts-returns-in-Two t c =
-    let a = c.args in
-    let h = c.requires in
-    let f = c.number-f in
-    let g = c.number-g in
-    number_two a.q.now a.at a.numbering.now h.0 a.k h.1 f.result f.new.numbering f.ensures _ c.in-Two.is g.result g.new.numbering g.ensures c.node-in-Two.result c.node-in-Two.ensures c.note-in-Two.new.numbering c.note-in-Two.result c.note-in-Two.ensures
+pub number_parts-note-requires : goal.number_parts-note-requires
+number_parts-note-requires t c = let p = parts t c in (p.room, p.nodes, p.first, p.second)
+
+pub number_parts-returns : goal.number_parts-returns
+number_parts-returns t c =
+    let p = parts t (goal.at.number_parts-returns t c).After-node in
+    p.named c.note.new.nodes.items c.note.result c.note.ensures

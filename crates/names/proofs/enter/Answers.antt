@@ -1,13 +1,15 @@
 use native.Mathlib.Nat.{le_refl}
 use lib.Seq.{take-set-le}
+use Rattle.std.proofs.Common.{◌+◌}
 use Rattle.names.proofs.Entering.{entered}
 use Rattle.names.proofs.enter.Goals as goal
 
 pub returns : goal.returns
 returns c =
     let a = c.args in
-    let f = c.number-f in (
-      λ first xs h e. entered a.q.now a.numbering.now f.new.numbering a.items.now first a.l xs h e f.result f.ensures c.letter_bit.result c.compound_bit.result c.letter_bit.ensures c.compound_bit.ensures,
-      take-set-le a.l.places a.items.now a.l.places f.result.name (le_refl a.l.places),
+    let f = c.number-f in
+    let place = a.first + a.l.half.count in (
+      λ xs h e. entered a.q.now a.lists.now.nodes.items f.new.nodes.items a.lists.now.items a.first a.l xs h e f.result f.ensures c.with.result c.with.ensures,
+      take-set-le place a.lists.now.items place f.result.value (le_refl place),
       f.ensures.end,
     )
