@@ -66,7 +66,7 @@ impl Fault {
     }
 }
 
-// Why a derivation does not pass: its question is refused, or it has a fault.
+// Why a derivation does not pass: its question is refused, or it has a fault. By the Rust wrapper's name.
 #[derive(Clone, Copy)]
 pub enum NotPassed {
     Refused(Refusal),

@@ -6,7 +6,7 @@ use clauses::{ClauseVerdict, NotClauses};
 use print::Refused;
 use std::io;
 
-// One line: what the call answers.
+// One line: what the call answers. Numbers are text here, apart from the code that gives them.
 fn ask(rt: &impl Print, q: &[u8]) -> io::Result<()> {
     match clauses::decide_clauses(q) {
         Ok(ClauseVerdict::Theorem(rounds)) => println!(rt; "theorem {rounds}"),

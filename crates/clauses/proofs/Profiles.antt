@@ -7,9 +7,7 @@ use mathlib.Core.Option.{none, some}
 use mathlib.Core.List.{List, [], ◌∷◌, ◌++◌, map, map-append, append-nil}
 use Prim.Native.Nat.{ℕ, ◌+◌, ◌-◌, ◌≤◌, ◌<◌}
 use native.Mathlib.Omega.{arith}
-use native.Mathlib.Numerals.{add-one}
-use lib.ListN.{length, take, drop, set, length-set}
-use lib.Seq.{take-suc-set, take_all, take-append_seam}
+use lib.ListN.{length, take, drop, length-append}
 use Rattle.std.specs.Prelude.{None, Some, Result, Ok, Err}
 use Rattle.calculus.specs.Fold.{Each, choose}
 use Rattle.calculus.specs.declared.Side.TheVariants.{Left}
@@ -140,9 +138,9 @@ prepends_all (c ∷ cs) = ap (prepend c) (prepends_all cs)
 -- i of n formulas are stored; these clauses and the formulas from e on come to the whole profile
 pub record Storing (q : List ℕ) (all : Profile) (n : ℕ) (ms : List Masks) (e i : ℕ) : Type 0 where
   pub upto : i ≤ n
-  pub room : length ms ≡ n
+  pub room : length ms ≡ i
   pub done : List Clause
-  pub stored : take i ms ≡ map masks_of done
+  pub stored : ms ≡ map masks_of done
   pub enough : n - i ≤ length (formulas (drop e q))
   pub lettered : Each Lettered (take (n - i) (formulas (drop e q)))
   pub same : prepends done (profile_from e (take (n - i) (formulas (drop e q)))) ≡ all
@@ -154,14 +152,13 @@ left_of S = profile_from (side_start Left S) S.on_left
 pub left_few : (q : List ℕ) → reading q ≡ accepted → (n : ℕ) → n ≡ length (question q).on_left → n ≤ FORMULAS
 left_few q a n f = omega (arith, f, (accepted_question q a).0.lefts)
 
-pub storing_first : (q : List ℕ) → reading q ≡ accepted → (at n : ℕ) → at ≡ side_start Left (question q) → n ≡ length (question q).on_left → (ms : List Masks) → length ms ≡ n
-    → Storing q (left_of (question q)) n ms at 0
-storing_first q a at n e f ms z =
+pub storing_first : (q : List ℕ) → reading q ≡ accepted → (at n : ℕ) → at ≡ side_start Left (question q) → n ≡ length (question q).on_left → Storing q (left_of (question q)) n [] at 0
+storing_first q a at n e f =
     let r = side_read q a Left at n e f in
     let d : n - 0 ≡ n = omega arith in
     record {
       upto = omega arith;
-      room = z;
+      room = refl;
       done = [];
       stored = refl;
       enough = omega (arith, r.enough);
@@ -201,10 +198,10 @@ module _ {q : List ℕ} {all : Profile} {n : ℕ} {ms : List Masks} {e i : ℕ} 
       go w (is_many c m g) f = let j : r ≡ ManyPositive e = cc in rw j (ap profile_reply (refused MANY_POSITIVE (admitted c true m g)))
       go w (is_single c m g) f = absurd (cc)
 
-  pub storing_next : (x : Ended Masks) → Ok x ≡ clause_at q e → Storing q all n (set ms i x.value) x.end (i + 1)
+  pub storing_next : (x : Ended Masks) → Ok x ≡ clause_at q e → Storing q all n (ms ++ x.value ∷ []) x.end (i + 1)
   storing_next x f = go (clause_at q e) (found q e) f
     where
-      go : (w : Result (Ended Masks) NotClauses) → Found q e w → Ok x ≡ w → Storing q all n (set ms i x.value) x.end (i + 1)
+      go : (w : Result (Ended Masks) NotClauses) → Found q e w → Ok x ≡ w → Storing q all n (ms ++ x.value ∷ []) x.end (i + 1)
       go w (is_none k) f = absurd (cc)
       go w (is_many c k g) f = absurd (cc)
       go w (is_single c k g) f =
@@ -214,10 +211,9 @@ module _ {q : List ℕ} {all : Profile} {n : ℕ} {ms : List Masks} {e i : ℕ} 
           let t : n - (i + 1) ≡ n - i - 1 = omega arith in
           rw l (record {
             upto = omega arith;
-            room = length-set ms i x.value ∙ s.room;
+            room = length-append ms (x.value ∷ []) ∙ ap (λ (k : ℕ). k + 1) s.room;
             done = s.done ++ (c ∷ []);
-            stored =
-                rw (add-one i) (take-suc-set ms i x.value (omega (arith, s.room)) ∙ ap₂ (λ (k : List Masks) (w : Masks). k ++ (w ∷ [])) s.stored j ∙ sym (map-append masks_of s.done (c ∷ [])));
+            stored = ap₂ (λ (k : List Masks) (w : Masks). k ++ (w ∷ [])) s.stored j ∙ sym (map-append masks_of s.done (c ∷ []));
             enough = rw t now.due;
             lettered = rw t now_lettered.1;
             same =
@@ -229,14 +225,10 @@ pub reply_answer : (d : Decision) → reply_of (Ok (answer_of d)) ≡ decision_r
 reply_answer (theorem n) = refl
 reply_answer (refuted σ n) = refl
 
-pub take_front : (n : ℕ) (ms others : List Masks) → length ms ≡ n → take n (ms ++ others) ≡ ms
-take_front n ms others e = rw (← e) (take-append_seam ms others)
-
 -- all are stored
 pub storing_last : {q : List ℕ} {all : Profile} {n : ℕ} {ms : List Masks} {e i : ℕ} → Storing q all n ms e i → n ≤ i → (v : ClauseVerdict)
     → ((cs : List Clause) → ms ≡ map masks_of cs → v ≡ answer_of (decided cs)) → reply_of (Ok v) ≡ profile_reply (all)
 storing_last {n = n} {ms = ms} {i = i} s h v f =
     let z : n - i ≡ 0 = omega arith in
-    let k : take i ms ≡ ms = take_all i ms (omega (arith, s.room)) in
-    ap (λ (v : ClauseVerdict). reply_of (Ok v)) (f s.done (sym k ∙ s.stored)) ∙ reply_answer (decided s.done)
+    ap (λ (v : ClauseVerdict). reply_of (Ok v)) (f s.done s.stored) ∙ reply_answer (decided s.done)
     ∙ ap profile_reply (sym (prepends_all s.done) ∙ rw z at s.same)

@@ -14,6 +14,7 @@ ghost use Rattle.clauses.specs.Masks.{masks_of, settled_of, clause_at};
 ghost use Rattle.clauses.specs.Answers.{reply_of, answer_of, Settles};
 ghost use Rattle.clauses.specs.declared.NotClauses.TheVariants.{Refused};
 
+use arrayvec::ArrayVec;
 use calculus::Side;
 use question::{ALL_FORMULAS, Ended, Question, Refusal};
 
@@ -118,7 +119,7 @@ impl Gathered {
     }
 }
 
-// Why clauses do not decide a question, and the place.
+// Why clauses do not decide a question, and the place. By the Rust wrapper's name.
 #[derive(Clone, Copy)]
 pub enum NotClauses {
     Refused(Refusal),
@@ -150,8 +151,9 @@ fn clause_at(q: &[u8], at: usize) -> Result<Ended<Masks>, NotClauses>
     })
 }
 
-// The state after a round over the clauses. A clause that is not met joins an empty mask: with a `filter` a round took
-// twice the time.
+// The state after a round over the clauses. Here and below a contract speaks of any clauses that have these masks: a type for
+// both would hold the clauses once more. A clause that is not met joins an empty mask: with a `filter` chains take twice the
+// time.
 fn round(clauses: &[Masks], state: u64) -> u64
     ensures { (cs : List Clause) → clauses.now ≡ map masks_of cs → result ≡ round cs state }
 {
@@ -190,7 +192,8 @@ fn some_fails(clauses: &[Masks], lit: u64) -> bool
     clauses.iter().any(|c| c.fails(lit))
 }
 
-// What clauses decide: the rounds that lit a letter, with the state of a refuted question.
+// What clauses decide: the rounds that lit a letter, with the state of a refuted question. Two cases, as a verdict's kind has
+// them, by the Rust wrapper's name.
 #[derive(Clone, Copy)]
 pub enum ClauseVerdict {
     Theorem(usize),
@@ -215,13 +218,13 @@ fn decide_left(q: Question<'_>) -> Result<ClauseVerdict, NotClauses>
     let formulas = q.left();
     let n = formulas.count();
     let mut at = formulas.start;
-    let mut clauses = [Masks::default(); ALL_FORMULAS];
-    for clause in clauses[..n].iter_mut() {
+    let mut clauses: ArrayVec<Masks, ALL_FORMULAS> = ArrayVec::new();
+    for _i in 0..n {
         let next = clause_at(q.bytes, at)?;
-        *clause = next.value;
+        clauses.push(next.value);
         at = next.end;
     }
-    Ok(decide(&clauses[..n]))
+    Ok(decide(clauses.as_slice()))
 }
 
 // An accepted question. Every formula ends with a letter's command and operand, so the last byte but one tells if the

@@ -34,7 +34,7 @@ fn unproved(rt: &impl Print, v: Verdict) -> io::Result<()> {
     }
 }
 
-// One line: what the writer answered.
+// One line: what the writer answered. Numbers are text here, apart from the code that gives them.
 fn answer(rt: &impl Print, a: Result<Written, NotWritten>) -> io::Result<()> {
     match a {
         Ok(w) => println!(rt;

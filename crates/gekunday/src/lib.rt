@@ -1,4 +1,5 @@
-// The library's calls, for Rattle, and what each answers C: a number and words. The exports stand in `gekunday_c`.
+// The library's calls, for Rattle, and what each answers C: a number and words. The exports stand in `gekunday_c`. Each call is
+// said here with its clauses, so that one crate has all that a caller may rely on.
 #![tactic(auto)]
 
 ghost use Rattle.std.specs.Prelude.{◌≡◌, ◌↔◌, [], ◌∷◌, ℕ, ◌≤◌, take, IfOk};

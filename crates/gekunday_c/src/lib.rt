@@ -1,4 +1,5 @@
-// The exports for C: each calls the function of its name in `gekunday`, with the same clauses.
+// The exports for C: each calls the function of its name in `gekunday`, with the same clauses. They are a crate of their own,
+// since a crate is a library or a static one.
 #![tactic(auto)]
 
 ghost use Rattle.std.specs.Prelude.{◌≡◌};

@@ -18,7 +18,6 @@ use Rattle.sequent.specs.Names.{formula_in, Known}
 use Rattle.sequent.specs.View.{bits_by, bit_of, compound_bit, grown}
 use Rattle.sequent.proofs.Namings.{told_formula}
 use Rattle.sequent.proofs.Letters.{bits_append}
-use Rattle.names.specs.declared.Loaded.{Loaded}
 use Rattle.names.specs.Loads.{Kept, Numbered, NamesAll, Loads, Enters}
 use Rattle.names.proofs.Naming.{tells_kept}
 
@@ -63,9 +62,9 @@ names_kept T R l k (d ∷ ds) (x ∷ xs) h = (tells_kept T R k x d h.1 h.0, omeg
 more_bits : (β : ℕ → ℕ) (d m : ℕ) (ds es : List ℕ) → m ≡ bits_by β ds → es ≡ ds ++ (d ∷ []) → bit_or m (β d) ≡ bits_by β es
 more_bits β d m ds es h e = rw (h, e, bits_append β ds (d ∷ []), or_zero_r (β d))
 
-module _ (q T R items : List ℕ) (first : ℕ) (l : Loaded) (xs : List Formula) (h : Loads T items first l xs) (e : Enters q l xs) (f : Ended ℕ) (t : Numbered q l.end T R f) where
+module _ (q T R items : List ℕ) (first : ℕ) (l : Ended Half) (xs : List Formula) (h : Loads T items first l xs) (e : Enters q l xs) (f : Ended ℕ) (t : Numbered q l.end T R f) where
   abbrev place : ℕ
-  place = first + l.half.count
+  place = first + l.value.count
 
   abbrev filled : List ℕ
   filled = set items place f.value
@@ -73,28 +72,28 @@ module _ (q T R items : List ℕ) (first : ℕ) (l : Loaded) (xs : List Formula)
   inside : place < length items
   inside = omega (arith, h.count, h.room, e.room)
 
-  next : first + (l.half.count + 1) ≡ suc place
+  next : first + (l.value.count + 1) ≡ suc place
   next = omega arith
 
-  take_more : take (first + (l.half.count + 1)) filled ≡ take place items ++ (f.value ∷ [])
+  take_more : take (first + (l.value.count + 1)) filled ≡ take place items ++ (f.value ∷ [])
   take_more = rw next (take-suc-set items place f.value inside)
 
-  slice_more : slice first (first + (l.half.count + 1)) filled ≡ slice first place items ++ (f.value ∷ [])
+  slice_more : slice first (first + (l.value.count + 1)) filled ≡ slice first place items ++ (f.value ∷ [])
   slice_more = ap (drop first) take_more ∙ drop-append-le first (take place items) (f.value ∷ []) (omega (arith, length-take-le place items (omega (arith, inside))))
 
-  pub entered : (r : Half) → r ≡ grown f.value l.half
-      → Loads R (set items (first + l.half.count) f.value) first (record { half = record { count = l.half.count + 1; mask = r.mask; set = r.set }; end = f.end }) (xs ++ (formula_at q l.end ∷ []))
+  pub entered : (r : Half) → r ≡ grown f.value l.value
+      → Loads R (set items (first + l.value.count) f.value) first (record { value = record { count = l.value.count + 1; mask = r.mask; set = r.set }; end = f.end }) (xs ++ (formula_at q l.end ∷ []))
   entered r i =
       let x = formula_at q l.end in
       let k = names_kept T R t.more t.kept (take place items) xs h.names in
       let n = names_append R (take place items) (f.value ∷ []) xs (x ∷ []) k (t.tells, t.below, tt) in
-      let slices = slice first (first + (l.half.count + 1)) filled in
+      let slices = slice first (first + (l.value.count + 1)) filled in
       record {
         room = length-set items place f.value ∙ h.room;
         nodes = t.nodes;
         few = omega (arith, h.few, t.few, fold_append SUM connectives xs (x ∷ []));
         count = omega (arith, h.count, length-append xs (x ∷ []));
         names = subst (λ (ds : List ℕ). NamesAll R ds (xs ++ (x ∷ []))) (sym take_more) n;
-        mask = ap (λ (r : Half). r.mask) i ∙ more_bits bit_of f.value l.half.mask (slice first place items) slices h.mask slice_more;
-        set = ap (λ (r : Half). r.set) i ∙ more_bits compound_bit f.value l.half.set (slice first place items) slices h.set slice_more;
+        mask = ap (λ (r : Half). r.mask) i ∙ more_bits bit_of f.value l.value.mask (slice first place items) slices h.mask slice_more;
+        set = ap (λ (r : Half). r.set) i ∙ more_bits compound_bit f.value l.value.set (slice first place items) slices h.set slice_more;
       }

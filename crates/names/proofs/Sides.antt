@@ -23,7 +23,8 @@ use Rattle.sequent.specs.declared.Running.{Running}
 use Rattle.sequent.specs.View.{view, set_of, sequent_of, letters_of, compounds_of, Masked, Good}
 use Rattle.sequent.proofs.Premises.{take_drop}
 use Rattle.sequent.proofs.Sets.{members}
-use Rattle.names.specs.declared.Loaded.{Loaded}
+use Rattle.question.specs.declared.Ended.{Ended}
+use Rattle.sequent.specs.declared.Half.{Half}
 use Rattle.names.specs.Loads.{NamesAll, none_yet, Loads, Enters, before}
 use Rattle.names.proofs.Entering.{names_split, names_known, names_formulas}
 
@@ -82,13 +83,13 @@ pub record Starts (q T items : List ℕ) (first start n : ℕ) (u : Side) : Type
   pub loads : Loads T items first (none_yet start) (before u (question q))
 
 -- its first i formulas have come
-pub record Filled (q old : List ℕ) (first : ℕ) (u : Side) (T items : List ℕ) (l : Loaded) (i : ℕ) : Type 0 where
+pub record Filled (q old : List ℕ) (first : ℕ) (u : Side) (T items : List ℕ) (l : Ended Half) (i : ℕ) : Type 0 where
   pub ends : l.end ≡ start_of u i (question q)
   pub loads : Loads T items first l (up_to u i (question q))
   pub kept : take first items ≡ take first old
 
 module _ (q T₀ old : List ℕ) (first start n : ℕ) (u : Side) (s : Starts q T₀ old first start n u) where
-  module _ (T items : List ℕ) (l : Loaded) (i : ℕ) (f : Filled q old first u T items l i) (h : i < n) where
+  module _ (T items : List ℕ) (l : Ended Half) (i : ℕ) (f : Filled q old first u T items l i) (h : i < n) where
     inside : i < length (on_side u (question q))
     inside = omega (arith, s.count)
 
@@ -106,11 +107,11 @@ module _ (q T₀ old : List ℕ) (first start n : ℕ) (u : Side) (s : Starts q 
           room = omega (arith, next_sum S u i inside (λ x. 1), whole_size S w, ones (up_to u i S));
         }
 
-    pub filled_next : (R new : List ℕ) (r : Loaded) → Loads R new first r (up_to u i (question q) ++ (formula_at q l.end ∷ []))
-        → take (first + l.half.count) new ≡ take (first + l.half.count) items → r.end ≡ end_of q l.end → Filled q old first u R new r (i + 1)
+    pub filled_next : (R new : List ℕ) (r : Ended Half) → Loads R new first r (up_to u i (question q) ++ (formula_at q l.end ∷ []))
+        → take (first + l.value.count) new ≡ take (first + l.value.count) items → r.end ≡ end_of q l.end → Filled q old first u R new r (i + 1)
     filled_next R new r k t e =
         let S = question q in
-        let places = first + l.half.count in
+        let places = first + l.value.count in
         let m : first ≤ places = omega arith in
         let d : up_to u i S ++ (formula_at q l.end ∷ []) ≡ up_to u (i + 1) S
         = rw (next, add-one i, take_next (on_side u S) i inside) (append_assoc (before u S) (take i (on_side u S)) (first_of (drop i (on_side u S)) ∷ [])) in
@@ -123,40 +124,40 @@ module _ (q T₀ old : List ℕ) (first start n : ℕ) (u : Side) (s : Starts q 
 -- ---- both sides
 
 -- once the left side's formulas have come, none of the right side's has
-pub right_begins : (S : Sequent) (T items : List ℕ) (l : Loaded) (start : ℕ) → Loads T items 0 l S.on_left → Loads T items l.half.count (none_yet start) S.on_left
+pub right_begins : (S : Sequent) (T items : List ℕ) (l : Ended Half) (start : ℕ) → Loads T items 0 l S.on_left → Loads T items l.value.count (none_yet start) S.on_left
 right_begins S T items l start h =
-    let n : l.half.count + 0 ≡ 0 + l.half.count = omega arith in
-    let e : [] ≡ slice l.half.count (l.half.count + 0) items = rw (add-zero l.half.count) (sym (slice_empty l.half.count items)) in
+    let n : l.value.count + 0 ≡ 0 + l.value.count = omega arith in
+    let e : [] ≡ slice l.value.count (l.value.count + 0) items = rw (add-zero l.value.count) (sym (slice_empty l.value.count items)) in
     record { room = h.room; nodes = h.nodes; few = h.few; count = n ∙ h.count; names = rw n h.names; mask = ap letters_of e; set = ap compounds_of e }
 
-abbrev running : Loaded → Loaded → Running
-running l r = record { left = l.half; right = r.half }
+abbrev running : Ended Half → Ended Half → Running
+running l r = record { left = l.value; right = r.value }
 
-module _ (S : Sequent) (w : Within S) (R old : List ℕ) (l : Loaded) (a : Loads R old 0 l S.on_left)
-    (T items : List ℕ) (r : Loaded) (b : Loads T items l.half.count r (S.on_left ++ S.on_right)) (k : take l.half.count items ≡ take l.half.count old) where
+module _ (S : Sequent) (w : Within S) (R old : List ℕ) (l : Ended Half) (a : Loads R old 0 l S.on_left)
+    (T items : List ℕ) (r : Ended Half) (b : Loads T items l.value.count r (S.on_left ++ S.on_right)) (k : take l.value.count items ≡ take l.value.count old) where
   few : length T ≤ CONNECTIVES
   few = omega (arith, b.few, fold_append SUM connectives S.on_left S.on_right, w.connectives)
 
-  none : 0 + l.half.count ≡ l.half.count
+  none : 0 + l.value.count ≡ l.value.count
   none = omega arith
 
-  room : l.half.count + r.half.count ≤ 2 * FORMULAS
+  room : l.value.count + r.value.count ≤ 2 * FORMULAS
   room = omega (arith, b.count, length-append S.on_left S.on_right, w.lefts, w.rights)
 
   -- the names of the two sides
-  both : NamesAll T (take l.half.count items) S.on_left × NamesAll T (take r.half.count (drop l.half.count items)) S.on_right
+  both : NamesAll T (take l.value.count items) S.on_left × NamesAll T (take r.value.count (drop l.value.count items)) S.on_right
   both =
-      let lefts = take l.half.count items in
-      let rights = take r.half.count (drop l.half.count items) in
-      let n : length lefts ≡ length S.on_left = length-take-le l.half.count items (omega (arith, room, b.room)) ∙ omega (arith, a.count) in
-      names_split T lefts rights S.on_left S.on_right n (subst (λ (ds : List ℕ). NamesAll T ds (S.on_left ++ S.on_right)) (take-add l.half.count r.half.count items) b.names)
+      let lefts = take l.value.count items in
+      let rights = take r.value.count (drop l.value.count items) in
+      let n : length lefts ≡ length S.on_left = length-take-le l.value.count items (omega (arith, room, b.room)) ∙ omega (arith, a.count) in
+      names_split T lefts rights S.on_left S.on_right n (subst (λ (ds : List ℕ). NamesAll T ds (S.on_left ++ S.on_right)) (take-add l.value.count r.value.count items) b.names)
 
   names : (t : Side) → NamesAll T (on_side t (view (running l r) items)) (on_side t S)
   names Left = both.0
   names Right = both.1
 
-  right_part : slice l.half.count (l.half.count + r.half.count) items ≡ take r.half.count (drop l.half.count items)
-  right_part = sym (take_drop l.half.count r.half.count items (omega (arith, room, b.room)))
+  right_part : slice l.value.count (l.value.count + r.value.count) items ≡ take r.value.count (drop l.value.count items)
+  right_part = sym (take_drop l.value.count r.value.count items (omega (arith, room, b.room)))
 
   masks : Masked (running l r) items
   masks Left = rw none at a.mask ∙ ap letters_of (sym k)

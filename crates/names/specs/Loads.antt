@@ -11,7 +11,7 @@ use Rattle.question.specs.declared.Ended.{Ended}
 use Rattle.question.specs.Positions.{Well, formula_at, end_of}
 use Rattle.sequent.specs.Names.{node_of, Tells, Distinct, first_of, second_of}
 use Rattle.sequent.specs.View.{letters_of, compounds_of}
-use Rattle.names.specs.declared.Loaded.{Loaded}
+use Rattle.sequent.specs.declared.Half.{Half}
 
 -- ---- nodes
 
@@ -61,21 +61,21 @@ NamesAll T (d ∷ ds) [] = ⊥
 NamesAll T (d ∷ ds) (x ∷ xs) = Tells T d x × (d < LETTERS + length T) × NamesAll T ds xs
 
 -- none yet of a side whose formulas start at a position
-abbrev pub none_yet : ℕ → Loaded
-none_yet start = record { half = record { count = 0; mask = 0; set = 0 }; end = start }
+abbrev pub none_yet : ℕ → Ended Half
+none_yet start = record { value = record { count = 0; mask = 0; set = 0 }; end = start }
 
 -- the places so far name these formulas; those from `first` on are of the side that is being filled
-pub record Loads (T items : List ℕ) (first : ℕ) (l : Loaded) (xs : List Formula) : Type 0 where
+pub record Loads (T items : List ℕ) (first : ℕ) (l : Ended Half) (xs : List Formula) : Type 0 where
   pub room : length items ≡ ROOM
   pub nodes : Nodes T
   pub few : length T ≤ fold SUM connectives xs
-  pub count : first + l.half.count ≡ length xs
-  pub names : NamesAll T (take (first + l.half.count) items) xs
-  pub mask : l.half.mask ≡ letters_of (slice first (first + l.half.count) items)
-  pub set : l.half.set ≡ compounds_of (slice first (first + l.half.count) items)
+  pub count : first + l.value.count ≡ length xs
+  pub names : NamesAll T (take (first + l.value.count) items) xs
+  pub mask : l.value.mask ≡ letters_of (slice first (first + l.value.count) items)
+  pub set : l.value.set ≡ compounds_of (slice first (first + l.value.count) items)
 
 -- a formula can come to them
-pub record Enters (q : List ℕ) (l : Loaded) (xs : List Formula) : Type 0 where
+pub record Enters (q : List ℕ) (l : Ended Half) (xs : List Formula) : Type 0 where
   pub well : Well q l.end
   pub lettered : Lettered (formula_at q l.end)
   pub fits : fold SUM connectives xs + connectives (formula_at q l.end) ≤ CONNECTIVES

@@ -19,18 +19,12 @@ use arrayvec::ArrayVec;
 use question::{ALL_CONNECTIVES, Connective, Ended, Formulas, LETTERS, Question};
 use sequent::{Half, Names, ROOM, Running};
 
-// The nodes of a question's compounds, room for as many as there are connectives, and the names of its formulas.
+// The nodes of a question's compounds, and the names of its formulas, in fixed memory with room for all. They are lent to `root`:
+// made by itself and answered, `derive` and `check` of editor-size questions take 1.11 and 1.12 times what they took.
 #[derive(Drop)]
 pub struct Lists {
     pub nodes: ArrayVec<u32, ALL_CONNECTIVES>,
     pub items: [u8; ROOM],
-}
-
-// A side's formulas so far, and the position behind them.
-#[derive(Clone, Copy)]
-pub struct Loaded {
-    pub half: Half,
-    pub end: usize,
 }
 
 impl Lists {
@@ -55,7 +49,7 @@ impl Lists {
 }
 
 // The node of a compound in one number, so that the search among nodes compares one word each: as a struct of a connective and
-// two names `decide` takes 1.15 to 1.2 times as long.
+// two names `decide` takes 1.15 to 1.2 times as long, 1.17 and more of what it took.
 fn node(k: Connective, f: u8, g: u8) -> u32
     ensures { result ≡ node (command_of k) f g }
 {
@@ -122,37 +116,37 @@ fn number_parts(
     }
 }
 
-// The next formula of a side.
-fn enter(q: &[u8], lists: &mut Lists, first: usize, l: Loaded) -> Loaded
+// The next formula of a side: to the half so far, and the position behind it.
+fn enter(q: &[u8], lists: &mut Lists, first: usize, l: Ended<Half>) -> Ended<Half>
     requires { (xs : List Formula) × Loads lists.old.nodes.items lists.old.items first l xs × Enters q.now l xs }
     ensures { ((xs : List Formula) → Loads lists.old.nodes.items lists.old.items first l xs
         → Enters q.now l xs
         → Loads lists.new.nodes.items lists.new.items first result (xs ++ (formula_at q.now l.end ∷ [])))
-        × (take (first + l.half.count) lists.new.items ≡ take (first + l.half.count) lists.old.items)
+        × (take (first + l.value.count) lists.new.items ≡ take (first + l.value.count) lists.old.items)
         × (result.end ≡ end_of q.now l.end) }
 {
     let f = number(q, &mut lists.nodes, l.end);
-    let place = first + l.half.count;
+    let place = first + l.value.count;
     lists.items[place] = f.value;
-    Loaded {
-        half: Half {
-            count: l.half.count + 1,
-            ..l.half.with(f.value)
+    Ended {
+        value: Half {
+            count: l.value.count + 1,
+            ..l.value.with(f.value)
         },
         end: f.end,
     }
 }
 
 // The formulas of a side of an accepted question, behind the first so many places.
-fn load(xs: Formulas<'_>, lists: &mut Lists, first: usize) -> Loaded
+fn load(xs: Formulas<'_>, lists: &mut Lists, first: usize) -> Ended<Half>
     requires { Loads lists.old.nodes.items lists.old.items first (none_yet xs.start) (before xs.side (question xs.q.bytes.now)) }
     ensures { let S = question xs.entry.q.bytes.now in let ys = on_side xs.entry.side S in Loads lists.new.nodes.items lists.new.items first result (before xs.entry.side S ++ ys)
         × (take first lists.new.items ≡ take first lists.old.items)
         × (result.end ≡ xs.entry.start + bytes_all ys) }
 {
     let n = xs.count();
-    let mut l = Loaded {
-        half: Half::default(),
+    let mut l = Ended {
+        value: Half::default(),
         end: xs.start,
     };
     for _i in 0..n {
@@ -168,9 +162,9 @@ pub fn root(q: Question<'_>, lists: &mut Lists) -> Running
 {
     lists.nodes.clear();
     let l = load(q.left(), lists, 0);
-    let r = load(q.right(l.end), lists, l.half.count);
+    let r = load(q.right(l.end), lists, l.value.count);
     Running {
-        left: l.half,
-        right: r.half,
+        left: l.value,
+        right: r.value,
     }
 }

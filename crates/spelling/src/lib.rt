@@ -18,7 +18,7 @@ use calculus::Side;
 use question::{ALL_FORMULAS, Formulas, Question, Refusal};
 
 // Where a formula is among others that ascend, or else where it belongs. From the front: by halves (`binary_search`) spelling
-// took 1.2 times as long where sides have many formulas.
+// takes 1.26 to 1.35 times what it took where sides have many formulas.
 fn spot_of(items: &[&[u8]], x: &[u8]) -> Result<usize, usize>
     ensures { let old = map (λ f. f.now) items.now in let new = insert (λ l. l) x.now old in MatchResult result
         (λ i. new ≡ old)
@@ -103,7 +103,7 @@ fn write_sides(lefts: &[&[u8]], rights: &[&[u8]], out: &mut [u8]) -> Result<usiz
     Ok(n)
 }
 
-// Why a question is not spelled: it is refused, or the buffer has no room for so many bytes.
+// Why a question is not spelled: it is refused, or the buffer has no room for so many bytes. By the Rust wrapper's name.
 #[derive(Clone, Copy)]
 pub enum NotSpelled {
     Refused(Refusal),

@@ -6,7 +6,7 @@ use print::{Line, Refused};
 use states::NotListed;
 use std::io;
 
-// One line: what the call answered.
+// One line: what the call answered. Numbers are text here, apart from the code that gives them.
 fn answer(rt: &impl Print, a: Result<usize, NotListed>) -> io::Result<()> {
     match a {
         Ok(n) => println!(rt; "listed {n}"),

@@ -30,7 +30,7 @@ pub struct Written {
     pub verdict: Verdict,
 }
 
-// Why none is written.
+// Why none is written. By the Rust wrapper's name.
 #[derive(Clone, Copy)]
 pub enum NotWritten {
     Refused(Refusal),
