@@ -19,9 +19,9 @@ use arrayvec::ArrayVec;
 use question::{ALL_CONNECTIVES, Connective, Ended, Formulas, LETTERS, Question};
 use sequent::{Half, Names, ROOM, Running};
 
-// The nodes of a question's compounds, and the names of its formulas, in fixed memory with room for all. They are lent to `root`, as
-// a premise's list is to `premise`: with both answered as values, `derive` and `check` of editor-size questions took 1.11 and 1.12
-// times what they took.
+// The nodes of a question's compounds, and the names of its formulas, in fixed memory with room for all. They are lent to `root`,
+// as a premise's list is to `premise`: with both answered as values, `derive` and `check` of editor-size questions took 1.11 and
+// 1.12 times what they took.
 #[derive(Drop)]
 pub struct Lists {
     pub nodes: ArrayVec<u32, ALL_CONNECTIVES>,
