@@ -124,8 +124,9 @@ extern "C" {
 /* States that were not listed; looked for before NO_SPACE. */
 #define GEKUNDAY_MANY_LETTERS 12    /* more than 16 different letters occur in the question */
 
-/* A question that is not made of clauses alone.  RIGHT_FORMULA comes first; then the earliest left formula decides, and
- * at one formula NOT_CLAUSE comes first.  The place is that of the formula's first byte. */
+/* A question that is read, but is not made of clauses alone: 1 to 7 come before these.  RIGHT_FORMULA comes first; then
+ * the earliest left formula decides, and at one formula NOT_CLAUSE comes first.  The place is that of the formula's first
+ * byte. */
 #define GEKUNDAY_RIGHT_FORMULA 13   /* the right side has a formula; place: its first one's */
 #define GEKUNDAY_NOT_CLAUSE 14      /* a left formula that is not built from letters, NOT of a letter and OR alone */
 #define GEKUNDAY_MANY_POSITIVE 15   /* a left formula with two or more letters without NOT, counted by occurrence */
@@ -236,9 +237,10 @@ uint32_t gekunday_states(const uint8_t *question, size_t length, uint64_t *state
 uint32_t gekunday_spell(const uint8_t *question, size_t length, uint8_t *buffer, size_t room, uint64_t out[1]);
 
 /*
- * Decides a question that is made of clauses alone: the right side is empty, and each left formula is a letter, NOT of
- * a letter, or OR of such formulas, with at most one letter that stands without NOT, counted by occurrence.  Each is a
- * rule: NOT a OR NOT b OR c is "if a and b, then c", NOT a OR NOT b is "not both a and b", and c alone is "c".
+ * Decides a question that is made of clauses alone (Horn clauses, by unit propagation): the right side is empty, and
+ * each left formula is a letter, NOT of a letter, or OR of such formulas, with at most one letter that stands without
+ * NOT, counted by occurrence.  Each is a rule: NOT a OR NOT b OR c is "if a and b, then c", NOT a OR NOT b is "not both a
+ * and b", and c alone is "c".
  *
  *   0: out = {0 theorem or 1 refuted, state, rounds}; 13, 14, 15: {place}; 1 to 7: {place}
  *

@@ -61,7 +61,7 @@
 //! ```
 //!
 //! No call panics, uses a heap or keeps anything between calls. What the answers mean is proved of the library; this
-//! wrapper only gives them types. A reply that the library's contract excludes would never read as a theorem, as a
+//! wrapper only gives them types. A number that the library's contract excludes would never read as a theorem, as a
 //! derivation written, as one that passes, as a list of states or as a spelling.
 
 #![no_std]
@@ -483,7 +483,7 @@ pub enum ClauseVerdict {
 pub enum NotClauses {
     /// 1 to 7: the question is refused.
     Refused(Refusal),
-    /// 13: the right side has a formula. The place is that of its first byte.
+    /// 13: the right side has a formula. The place is that of the first one's first byte.
     RightFormula(u64),
     /// 14: a left formula is not built from letters, NOT of a letter and OR alone. The place is that of its first byte.
     NotClause(u64),
@@ -807,7 +807,7 @@ pub fn spell<'b>(question: &[u8], buffer: &'b mut [u8]) -> Result<&'b [u8], NotS
     }
 }
 
-/// Decides a question that is made of clauses alone, without a budget.
+/// Decides a question that is made of clauses alone (Horn clauses, by unit propagation), without a budget.
 ///
 /// The right side is empty, and each left formula is a letter, NOT of a letter, or OR of such formulas, with at most
 /// one letter that stands without NOT, counted by occurrence. Each is a rule: NOT P OR NOT Q OR R is "if P and Q, then
@@ -848,8 +848,7 @@ pub fn clauses(question: &[u8]) -> Result<ClauseVerdict, NotClauses> {
     let number = unsafe { raw::gekunday_clauses(question.as_ptr(), question.len(), out.as_mut_ptr()) };
     let [first, state, rounds] = out;
     match (number, first) {
-        // A theorem has state 0, and takes a round: with all letters false, only a clause that is a letter is false.
-        (0, 0) if state == 0 && rounds > 0 => Ok(ClauseVerdict::Theorem { rounds }),
+        (0, 0) => Ok(ClauseVerdict::Theorem { rounds }),
         (0, _) => Ok(ClauseVerdict::Refuted { state, rounds }),
         _ => Err(NotClauses::of(number, first)),
     }

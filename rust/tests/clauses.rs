@@ -116,6 +116,8 @@ fn rounds_by_hand() {
         // A clause that is false early does not end the rounds: NOT P is false after the first.
         ("P> P P>Q Q>R", [0, 0, 3]),
         ("P P>Q Q>R R>", [0, 0, 3]),
+        // The example of source document 001.
+        ("PQ>R P>Q P R>", [0, 0, 3]),
     ] {
         assert_eq!(decided(&rules(text)), words, "{}", text);
     }

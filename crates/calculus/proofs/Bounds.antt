@@ -17,7 +17,7 @@ use Rattle.calculus.specs.declared.Kind.TheVariants.{Theorem, Refuted, Spent, Fu
 use Rattle.calculus.specs.Fold.{fold, ANY, ALL, SUM, PRODUCT, Each}
 use Rattle.calculus.specs.Limits.{ROOM}
 use Rattle.calculus.specs.Syntax.{other, Binary, AND, OR, IMPLIES, EQUIV, Formula, letter, neg, join, Sequent, over, connectives, c, size}
-use Rattle.calculus.specs.Truth.{value, says, truth, Valid}
+use Rattle.calculus.specs.Truth.{value, says, truth, Valid, Refutes}
 use Rattle.calculus.specs.Table.{premises}
 use Rattle.calculus.specs.Tree.{Way, closing, Step, closed, opened, full, reduced, Event, Tree, follow, chain, grow, tree_by, tree, is_reduce, is_close, reductions, closings}
 use Rattle.calculus.specs.Width.{wide, width, W}
@@ -147,10 +147,6 @@ tree_fine = tree_by_fine closing closing_sound
 
 pub theorem_true : (S : Sequent) → (tree S).end ≡ Theorem → Valid S
 theorem_true S e = rw e at (tree_fine S).verdict
-
--- each left formula is true, each right one false
-abbrev pub Refutes : ℕ → Sequent → Type 0
-Refutes σ S = Each (λ x. value σ x ≡ true) S.on_left × Each (λ x. value σ x ≡ false) S.on_right
 
 pub false_refutes : (S : Sequent) (σ : ℕ) → truth σ S ≡ false → Refutes σ S
 false_refutes S σ e =

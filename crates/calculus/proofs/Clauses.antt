@@ -11,6 +11,8 @@ use lib.ListN.{length}
 use Rattle.calculus.specs.declared.Side.TheVariants.{Left, Right}
 use Rattle.calculus.specs.declared.Kind.{Kind}
 use Rattle.calculus.specs.declared.Kind.TheVariants.{Theorem, Refuted, Spent, Full}
+use Rattle.calculus.specs.declared.ClauseVerdict.{ClauseVerdict}
+use Rattle.calculus.specs.declared.ClauseVerdict.TheVariants.{Theorem as theorem, Refuted as refuted}
 use Rattle.calculus.specs.Fold.{fold, ANY, ALL, Each, choose}
 use Rattle.calculus.specs.Limits.{Limits, RIGHT_FORMULA, NOT_CLAUSE, MANY_POSITIVE}
 use Rattle.calculus.specs.Syntax.{AND, OR, IMPLIES, EQUIV, Formula, letter, neg, join, Sequent}
@@ -18,12 +20,12 @@ use Rattle.calculus.specs.Bytes.{bytes, side_start, WithinUnder}
 use Rattle.calculus.specs.Truth.{bit, value, says, truth, Valid}
 use Rattle.calculus.specs.Tree.{among, tree, verdict}
 use Rattle.calculus.specs.States.{occurs, letters_under}
-use Rattle.calculus.specs.Clauses.{Clause, both, clause_of, several, Single, Profile, outside, clauses, prepend, admit, profile_from, profile_by, profile, met, rest, fails, Decision, theorem, refuted, judge, decided, is_theorem, Below, Correct, Agrees}
+use Rattle.calculus.specs.Clauses.{Clause, both, clause_of, several, Single, Profile, outside, clauses, prepend, admit, profile_from, profile_by, profile, met, settled, fails, judge, decided, is_theorem, Below, Correct, Agrees}
 use Rattle.calculus.proofs.Folds.{fold_append, or_elim, or_left, or_right, each_and, each_false}
 use Rattle.calculus.proofs.Bounds.{theorem_true, tree_fine}
 use Rattle.calculus.proofs.Budgets.{verdict_end}
 use Rattle.calculus.proofs.Letters.{occurs_letter}
-use Rattle.calculus.proofs.Rounds.{among_append, Has, rounds_bound, rest_below, false_above}
+use Rattle.calculus.proofs.Rounds.{among_append, Has, rounds_bound, settled_below, false_above}
 
 -- ---- a formula and its clause
 
@@ -156,25 +158,25 @@ module _ (S : Sequent) (cs : List Clause) (e : profile S ≡ clauses cs) where
   -- ---- what is decided is so
 
   -- each letter that is lit where the rounds end is lit in every state that makes it false
-  rest_least : (ρ : ℕ) → truth ρ S ≡ false → Below (rest cs).state ρ
-  rest_least ρ f = rest_below ρ cs (each_and Single (λ c. fails ρ c ≡ false) cs profile_single (each_false (λ c. fails ρ c ≡ false) (fails ρ) (λ c h. h) cs (sym (profile_truth ρ) ∙ f)))
+  settled_least : (ρ : ℕ) → truth ρ S ≡ false → Below (settled cs).state ρ
+  settled_least ρ f = settled_below ρ cs (each_and Single (λ c. fails ρ c ≡ false) cs profile_single (each_false (λ c. fails ρ c ≡ false) (fails ρ) (λ c h. h) cs (sym (profile_truth ρ) ∙ f)))
 
   pub decided_correct : Correct S (decided cs)
-  decided_correct = go (fold ANY (fails (rest cs).state) cs) refl
+  decided_correct = go (fold ANY (fails (settled cs).state) cs) refl
     where
-      go : (b : Bool) → fold ANY (fails (rest cs).state) cs ≡ b → Correct S (judge b (rest cs))
+      go : (b : Bool) → fold ANY (fails (settled cs).state) cs ≡ b → Correct S (judge b (settled cs))
       go true h = λ ρ. by ρ (truth ρ S) refl
         where
           by : (ρ : ℕ) (b : Bool) → truth ρ S ≡ b → b ≡ true
           by ρ true f = refl
-          by ρ false f = sym f ∙ profile_truth ρ ∙ false_above cs profile_single h ρ (rest_least ρ f)
-      go false h = record { refutes = profile_truth (rest cs).state ∙ h; below = rest_least }
+          by ρ false f = sym f ∙ profile_truth ρ ∙ false_above cs profile_single h ρ (settled_least ρ f)
+      go false h = record { refutes = profile_truth (settled cs).state ∙ h; below = settled_least }
 
   -- "a theorem exactly if" true in every state
   pub decided_exactly : (is_theorem (decided cs) ≡ true) ↔ Valid S
   decided_exactly = go (decided cs) decided_correct
     where
-      go : (d : Decision) → Correct S d → (is_theorem d ≡ true) ↔ Valid S
+      go : (d : ClauseVerdict) → Correct S d → (is_theorem d ≡ true) ↔ Valid S
       go (theorem n) t = (λ e. t, λ v. refl)
       go (refuted σ n) t = (λ e. absurd (false≢true e), λ v. absurd (true≢false (sym (v σ) ∙ t.refutes)))
 
@@ -187,7 +189,7 @@ module _ (S : Sequent) (cs : List Clause) (e : profile S ≡ clauses cs) where
           let t : (tree S).end ≡ Refuted ρ = verdict_end b S (Refuted ρ) h (λ d. cc) in
           rw t at (tree_fine S).verdict
 
-      go : (d : Decision) → Correct S d → (k : Kind) → (verdict b S).kind ≡ k → Agrees d k
+      go : (d : ClauseVerdict) → Correct S d → (k : Kind) → (verdict b S).kind ≡ k → Agrees d k
       go (theorem n) t Theorem h = tt
       go (theorem n) t (Refuted ρ) h = true≢false (sym (t ρ) ∙ refuting ρ h)
       go (theorem n) t Spent h = tt
@@ -199,7 +201,7 @@ module _ (S : Sequent) (cs : List Clause) (e : profile S ≡ clauses cs) where
       go (refuted σ n) t Full h = tt
 
   -- "the number of rounds that lit a lamp, which is at most the number of lamps in the question"
-  pub rounds_letters : (L : Limits) → WithinUnder L S → (rest cs).rounds ≤ length (letters_under L.letters S)
+  pub rounds_letters : (L : Limits) → WithinUnder L S → (settled cs).rounds ≤ length (letters_under L.letters S)
   rounds_letters L w =
       let ks = letters_under L.letters S in
       rounds_bound cs ks (fits_occur ks S.on_left cs profiled.lefts

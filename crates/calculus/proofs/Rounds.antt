@@ -10,10 +10,11 @@ use native.Mathlib.Omega.{arith}
 use borrow.Author.Tests.{eqb-true, eqb-false, eq-eqb, not-true, not-false}
 use lib.Dec.{eqb}
 use lib.ListN.{length, length-append}
+use Rattle.calculus.specs.declared.Settled.{Settled}
 use Rattle.calculus.specs.Fold.{fold, ANY, ALL, SUM, Each, choose}
 use Rattle.calculus.specs.Truth.{bit}
 use Rattle.calculus.specs.Tree.{among, light, state}
-use Rattle.calculus.specs.Clauses.{Clause, several, Single, met, fired, light_all, round, Rest, further, rounds_by, rest, fails, Below, after, Rests}
+use Rattle.calculus.specs.Clauses.{Clause, several, Single, met, fired, light_all, round, until, rounds_by, settled, fails, Below, after, Ends}
 use Rattle.calculus.proofs.Folds.{fold_append, or_elim, or_left, or_right, or_false_both, and_both}
 use Rattle.calculus.proofs.Trees.{bit_light, bit_zero, bit_state}
 use Rattle.calculus.proofs.States.{bit_ext}
@@ -145,13 +146,13 @@ darks_lt σ τ (j ∷ ks) k h m a b =
     (λ e. omega (arith, dark_le σ τ j h, darks_lt σ τ ks k h e a b))
 
 -- by the outcome of the test whether a round lights none
-by_round : (Q : Rest → Type 0) (n : ℕ) (cs : List Clause) (σ : ℕ)
+by_round : (Q : Settled → Type 0) (n : ℕ) (cs : List Clause) (σ : ℕ)
     → (round cs σ ≡ σ → Q (record { state = σ; rounds = 0 }))
     → (round cs σ ≢ σ → Q (record { state = (rounds_by n cs (round cs σ)).state; rounds = suc (rounds_by n cs (round cs σ)).rounds }))
     → Q (rounds_by (suc n) cs σ)
 by_round Q n cs σ f g = go (eqb (round cs σ) σ) refl
   where
-    go : (b : Bool) → eqb (round cs σ) σ ≡ b → Q (further b σ (round cs σ) (λ τ. rounds_by n cs τ))
+    go : (b : Bool) → eqb (round cs σ) σ ≡ b → Q (until b σ (round cs σ) (λ τ. rounds_by n cs τ))
     go true e = f (eqb-true (round cs σ) σ e)
     go false e = g (eqb-false (round cs σ) σ e)
 
@@ -183,7 +184,7 @@ module _ (cs : List Clause) (ks : List ℕ) (has : Each (Has ks) cs) where
       by_round (λ r. round cs r.state ≡ r.state) n cs σ (λ e. e) (λ e. at_rest n (round cs σ) (omega (arith, round_lights σ e)))
 
   -- the rounds that lit a letter are at most the letters
-  pub rounds_bound : (rest cs).rounds ≤ length ks
+  pub rounds_bound : (settled cs).rounds ≤ length ks
   rounds_bound = omega (arith, rounds_dark (length cs) 0, darks_all 0 ks)
 
 reached : (n : ℕ) (cs : List Clause) (σ : ℕ) → (rounds_by n cs σ).state ≡ after (rounds_by n cs σ).rounds cs σ
@@ -200,8 +201,8 @@ lights (suc n) cs σ m h = by_round (λ r. m < r.rounds → round cs (after m cs
     go e ih (suc m) l = ih m (omega arith)
 
 -- the rounds end: one more lights none
-pub rest_rests : (cs : List Clause) → Each Single cs → Rests cs (rest cs)
-rest_rests cs h =
+pub settled_ends : (cs : List Clause) → Each Single cs → Ends cs (settled cs)
+settled_ends cs h =
     let ks = positives cs in
     record {
       reached = reached (length cs) cs 0;
@@ -243,15 +244,15 @@ module _ (ρ : ℕ) (cs : List Clause) (h : Each (λ c. Single c × (fails ρ c 
   rounds_below zero σ l = l
   rounds_below (suc n) σ l = by_round (λ r. Below r.state ρ) n cs σ (λ e. l) (λ e. rounds_below n (round cs σ) (round_below σ l))
 
-  pub rest_below : Below (rest cs).state ρ
-  rest_below = rounds_below (length cs) 0 (λ k e. absurd (false≢true (sym (bit_zero k) ∙ e)))
+  pub settled_below : Below (settled cs).state ρ
+  settled_below = rounds_below (length cs) 0 (λ k e. absurd (false≢true (sym (bit_zero k) ∙ e)))
 
 -- ---- a clause that is false where the rounds end has no letter without NOT, and is false in every state above
 
-rest_false : (τ : ℕ) (cs : List Clause) → ((k : ℕ) → among k (fired τ cs) ≡ true → bit k τ ≡ true) → (ρ : ℕ) → Below τ ρ
+false_kept : (τ : ℕ) (cs : List Clause) → ((k : ℕ) → among k (fired τ cs) ≡ true → bit k τ ≡ true) → (ρ : ℕ) → Below τ ρ
     → fold ANY (fails τ) cs ≡ true → fold ANY (fails ρ) cs ≡ true
-rest_false τ [] h ρ l e = e
-rest_false τ (c ∷ cs) h ρ l e = go (met τ c) refl c.positive refl (λ g d. rest_false τ cs g ρ l d) h e
+false_kept τ [] h ρ l e = e
+false_kept τ (c ∷ cs) h ρ l e = go (met τ c) refl c.positive refl (λ g d. false_kept τ cs g ρ l d) h e
   where
     go : (b : Bool) → met τ c ≡ b → (ps : List ℕ) → c.positive ≡ ps
         → (((k : ℕ) → among k (fired τ cs) ≡ true → bit k τ ≡ true) → fold ANY (fails τ) cs ≡ true → fold ANY (fails ρ) cs ≡ true)
@@ -271,5 +272,5 @@ rest_false τ (c ∷ cs) h ρ l e = go (met τ c) refl c.positive refl (λ g d. 
 still_lit : (τ : ℕ) (cs : List Clause) → round cs τ ≡ τ → (k : ℕ) → among k (fired τ cs) ≡ true → bit k τ ≡ true
 still_lit τ cs e k m = ap (bit k) (sym e) ∙ bit_light_all k (fired τ cs) τ ∙ or_left (among k (fired τ cs)) (bit k τ) m
 
-pub false_above : (cs : List Clause) → Each Single cs → fold ANY (fails (rest cs).state) cs ≡ true → (ρ : ℕ) → Below (rest cs).state ρ → fold ANY (fails ρ) cs ≡ true
-false_above cs s e ρ l = rest_false (rest cs).state cs (still_lit (rest cs).state cs (rest_rests cs s).still) ρ l e
+pub false_above : (cs : List Clause) → Each Single cs → fold ANY (fails (settled cs).state) cs ≡ true → (ρ : ℕ) → Below (settled cs).state ρ → fold ANY (fails ρ) cs ≡ true
+false_above cs s e ρ l = false_kept (settled cs).state cs (still_lit (settled cs).state cs (settled_ends cs s).still) ρ l e

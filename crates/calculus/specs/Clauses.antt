@@ -1,10 +1,14 @@
--- "The house rules as clauses" (document 02, f): the profile, the rounds, and what they decide. A letter is lit in a state if it is true
--- there, and dark if it is false.
+-- "The house rules as clauses" (document 02, f): the profile, the rounds, and what they decide. In the field's words these are Horn clauses
+-- decided by unit propagation, and the state of a refuted question is the least model of its left side. A letter is lit in a state if it
+-- is true there, and dark if it is false.
 use Rattle.std.specs.Prelude.{◌≡◌, ◌≢◌, Bool, true, false, not, ◌&&◌, List, [], ◌∷◌, ◌++◌, ℕ, zero, suc, ◌+◌, ◌<◌, eqb, length}
 use Rattle.std.proofs.Math.Option.{Option, none, some}
 use Rattle.calculus.specs.declared.Side.TheVariants.{Left, Right}
 use Rattle.calculus.specs.declared.Kind.{Kind}
 use Rattle.calculus.specs.declared.Kind.TheVariants.{Theorem, Refuted, Spent, Full}
+use Rattle.calculus.specs.declared.Settled.{Settled}
+use Rattle.calculus.specs.declared.ClauseVerdict.{ClauseVerdict}
+use Rattle.calculus.specs.declared.ClauseVerdict.TheVariants.{Theorem as theorem, Refuted as refuted}
 use Rattle.calculus.specs.Fold.{fold, ANY, ALL, choose}
 use Rattle.calculus.specs.Limits.{RIGHT_FORMULA, NOT_CLAUSE, MANY_POSITIVE}
 use Rattle.calculus.specs.Syntax.{Binary, AND, OR, IMPLIES, EQUIV, Formula, letter, neg, join, Sequent}
@@ -100,28 +104,23 @@ light_all (k ∷ ks) σ = light_all ks (light k σ)
 abbrev pub round : List Clause → ℕ → ℕ
 round cs σ = light_all (fired σ cs) σ
 
--- the state in which the rounds end, and "the number of rounds that lit a lamp"
-pub record Rest : Type 0 where
-  pub state : ℕ
-  pub rounds : ℕ
+abbrev pub one_more : Settled → Settled
+one_more s = record { state = s.state; rounds = suc s.rounds }
 
-abbrev pub one_more : Rest → Rest
-one_more r = record { state = r.state; rounds = suc r.rounds }
-
--- "rounds go on until one lights none": τ is the state after a round from σ
-abbrev pub further : Bool → ℕ → ℕ → (ℕ → Rest) → Rest
-further true σ τ r = record { state = σ; rounds = 0 }
-further false σ τ r = one_more (r τ)
+-- "rounds go on until one lights none": whether the round from σ to τ does, and what comes of those from τ on
+abbrev pub until : Bool → ℕ → ℕ → (ℕ → Settled) → Settled
+until true σ τ s = record { state = σ; rounds = 0 }
+until false σ τ s = one_more (s τ)
 
 -- at most n rounds
-abbrev pub rounds_by : ℕ → List Clause → ℕ → Rest
+abbrev pub rounds_by : ℕ → List Clause → ℕ → Settled
 rounds_by zero cs σ = record { state = σ; rounds = 0 }
-rounds_by (suc n) cs σ = further (eqb (round cs σ) σ) σ (round cs σ) (λ τ. rounds_by n cs τ)
+rounds_by (suc n) cs σ = until (eqb (round cs σ) σ) σ (round cs σ) (λ τ. rounds_by n cs τ)
 
--- "all lamps start dark". A round that lights a letter takes it from a clause that lit none before, so as many rounds as there are clauses
--- suffice (the law `rest_rests`).
-abbrev pub rest : List Clause → Rest
-rest cs = rounds_by (length cs) cs 0
+-- "all lamps start dark": the state in which the rounds end, and "the number of rounds that lit a lamp". A round that lights a letter takes
+-- it from a clause that lit none before, so as many rounds as there are clauses suffice (the law `settled_ends`).
+abbrev pub settled : List Clause → Settled
+settled cs = rounds_by (length cs) cs 0
 
 -- ---- what is decided
 
@@ -129,21 +128,17 @@ rest cs = rounds_by (length cs) cs 0
 abbrev pub fails : ℕ → Clause → Bool
 fails σ c = met σ c && not (fold ANY (λ k. bit k σ) c.positive)
 
--- a theorem with the rounds, or refuted with the state and the rounds
-pub data Decision : Type 0 where
-  theorem : ℕ → Decision
-  refuted : ℕ → ℕ → Decision
-
-abbrev pub judge : Bool → Rest → Decision
-judge true r = theorem r.rounds
-judge false r = refuted r.state r.rounds
+-- a theorem, or refuted with the state
+abbrev pub judge : Bool → Settled → ClauseVerdict
+judge true s = theorem s.rounds
+judge false s = refuted s.state s.rounds
 
 -- "then the question is a theorem exactly if some clause is false"
-abbrev pub judged : List Clause → Rest → Decision
-judged cs r = judge (fold ANY (fails r.state) cs) r
+abbrev pub judged : List Clause → Settled → ClauseVerdict
+judged cs s = judge (fold ANY (fails s.state) cs) s
 
-abbrev pub decided : List Clause → Decision
-decided cs = judged cs (rest cs)
+abbrev pub decided : List Clause → ClauseVerdict
+decided cs = judged cs (settled cs)
 
 -- ---- what the laws say of it
 
@@ -156,17 +151,21 @@ pub record Least (σ : ℕ) (S : Sequent) : Type 0 where
   pub refutes : truth σ S ≡ false
   pub below : (ρ : ℕ) → truth ρ S ≡ false → Below σ ρ
 
-abbrev pub is_theorem : Decision → Bool
+abbrev pub is_theorem : ClauseVerdict → Bool
 is_theorem (theorem n) = true
 is_theorem (refuted σ n) = false
 
+abbrev pub rounds_of : ClauseVerdict → ℕ
+rounds_of (theorem n) = n
+rounds_of (refuted σ n) = n
+
 -- a theorem is true in every state, and a state returned is the least one
-abbrev pub Correct : Sequent → Decision → Type 0
+abbrev pub Correct : Sequent → ClauseVerdict → Type 0
 Correct S (theorem n) = Valid S
 Correct S (refuted σ n) = Least σ S
 
 -- "the verdict agrees with the prover's unless its run ends SPENT or FULL"; the state that the prover finds is above
-abbrev pub Agrees : Decision → Kind → Type 0
+abbrev pub Agrees : ClauseVerdict → Kind → Type 0
 Agrees (theorem n) Theorem = Unit {0}
 Agrees (theorem n) (Refuted ρ) = ⊥
 Agrees (theorem n) Spent = Unit {0}
@@ -181,8 +180,8 @@ abbrev pub after : ℕ → List Clause → ℕ → ℕ
 after zero cs σ = σ
 after (suc n) cs σ = after n cs (round cs σ)
 
--- what `rest` is, without a bound on the rounds: the first state from which a round lights none
-pub record Rests (cs : List Clause) (r : Rest) : Type 0 where
-  pub reached : r.state ≡ after r.rounds cs 0
-  pub lights : (n : ℕ) → n < r.rounds → round cs (after n cs 0) ≢ after n cs 0
-  pub still : round cs r.state ≡ r.state
+-- what `settled` is, without a bound on the rounds: the first state from which a round lights none
+pub record Ends (cs : List Clause) (s : Settled) : Type 0 where
+  pub reached : s.state ≡ after s.rounds cs 0
+  pub lights : (n : ℕ) → n < s.rounds → round cs (after n cs 0) ≢ after n cs 0
+  pub still : round cs s.state ≡ s.state

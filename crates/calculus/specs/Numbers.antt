@@ -99,7 +99,7 @@ numbers =
     -- place of the formula's first byte: 15, it has two or more letters without NOT
     ∷ row (clauses_reply (left_only 2 (0x01 ∷ 0x00 ∷ positive_twice))) 15 (4 ∷ [])
     -- reading refusals first; then 13; then formula by formula 14 before 15
-    ∷ row (clauses_reply (0x10 ∷ [])) 2 (1 ∷ [])
+    ∷ row (clauses_reply (0x10 ∷ 0x01 ∷ (negated_twice ++ (0x20 ∷ 0x01 ∷ 0x01 ∷ 0x00 ∷ 0x00 ∷ [])))) 7 (10 ∷ [])
     ∷ row (clauses_reply (0x10 ∷ 0x01 ∷ (negated_twice ++ (0x20 ∷ 0x01 ∷ 0x01 ∷ 0x00 ∷ [])))) 13 (8 ∷ [])
     ∷ row (clauses_reply (left_only 1 (0x04 ∷ (positive_twice ++ negated_twice)))) 14 (2 ∷ [])
     ∷ row (clauses_reply (left_only 2 (positive_twice ++ negated_twice))) 15 (2 ∷ [])

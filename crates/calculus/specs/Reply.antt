@@ -7,6 +7,8 @@ use Rattle.calculus.specs.declared.Kind.{Kind}
 use Rattle.calculus.specs.declared.Kind.TheVariants.{Theorem, Refuted, Spent, Full}
 use Rattle.calculus.specs.declared.Part.{Part}
 use Rattle.calculus.specs.declared.Verdict.{Verdict}
+use Rattle.calculus.specs.declared.ClauseVerdict.{ClauseVerdict}
+use Rattle.calculus.specs.declared.ClauseVerdict.TheVariants.{Theorem as theorem, Refuted as refuted}
 use Rattle.calculus.specs.Fold.{Each, choose}
 use Rattle.calculus.specs.Limits.{Limits, LIMITS, VARIED, FULL, SPENT, NOT_PROVED, NO_SPACE, MANY_LETTERS}
 use Rattle.calculus.specs.Syntax.{Formula, Sequent, on_side, c}
@@ -17,7 +19,7 @@ use Rattle.calculus.specs.Width.{W}
 use Rattle.calculus.specs.Derivation.{derivation, Checked, passes, faulty, checking}
 use Rattle.calculus.specs.States.{letters_under, refuting_over}
 use Rattle.calculus.specs.Standard.{spelling}
-use Rattle.calculus.specs.Clauses.{Profile, outside, clauses, profile, Decision, theorem, refuted, decided}
+use Rattle.calculus.specs.Clauses.{Profile, outside, clauses, profile, decided}
 
 -- the table's number, 0 where there is none, and what is returned beside it
 pub record Reply : Type 0 where
@@ -154,7 +156,7 @@ spell = spell_under LIMITS
 -- ---- deciding by clauses: 0 for a theorem or 1 for a refuted question, the state, the rounds; "reading refusals come first, then 13, then
 -- formula by formula 14 before 15"
 
-abbrev pub decision_reply : Decision → Reply
+abbrev pub decision_reply : ClauseVerdict → Reply
 decision_reply (theorem n) = record { number = 0; values = 0 ∷ 0 ∷ n ∷ [] }
 decision_reply (refuted σ n) = record { number = 0; values = 1 ∷ σ ∷ n ∷ [] }
 

@@ -3,7 +3,8 @@ use Rattle.std.proofs.Math.Option.{Option, none, some}
 use Rattle.std.specs.Prelude.{List, [], ◌∷◌, ◌++◌, ℕ}
 use Rattle.calculus.specs.declared.Kind.{Kind}
 use Rattle.calculus.specs.declared.Kind.TheVariants.{Theorem, Refuted, Spent}
-use Rattle.calculus.specs.Clauses.{Decision, theorem, refuted}
+use Rattle.calculus.specs.declared.ClauseVerdict.{ClauseVerdict}
+use Rattle.calculus.specs.declared.ClauseVerdict.TheVariants.{Theorem as theorem, Refuted as refuted}
 
 pub record Case : Type 0 where
   pub bytes : List ℕ
@@ -67,7 +68,7 @@ pub record Spelt : Type 0 where
   pub asked : List ℕ
   pub spelt : List ℕ
 
--- as formulas stand on a left side
+-- the question with n formulas, of these bytes, on the left and none on the right
 abbrev pub left_only : ℕ → List ℕ → List ℕ
 left_only n fs = 0x10 ∷ n ∷ (fs ++ (0x20 ∷ 0x00 ∷ []))
 
@@ -106,9 +107,9 @@ spellings =
 
 pub record Ruled : Type 0 where
   pub asked : List ℕ
-  pub decision : Decision
+  pub decision : ClauseVerdict
 
-abbrev ruled : ℕ → List ℕ → Decision → Ruled
+abbrev ruled : ℕ → List ℕ → ClauseVerdict → Ruled
 ruled n fs d = record { asked = left_only n fs; decision = d }
 
 abbrev pub rulings : List Ruled
@@ -127,10 +128,14 @@ rulings =
     ∷ ruled 3 (0x01 ∷ 0x00 ∷ 0x04 ∷ 0x02 ∷ 0x01 ∷ 0x00 ∷ 0x01 ∷ 0x01 ∷ 0x04 ∷ 0x02 ∷ 0x01 ∷ 0x01 ∷ 0x01 ∷ 0x02 ∷ []) (refuted 7 3)
     -- the same from the last
     ∷ ruled 3 (0x04 ∷ 0x02 ∷ 0x01 ∷ 0x01 ∷ 0x01 ∷ 0x02 ∷ 0x04 ∷ 0x02 ∷ 0x01 ∷ 0x00 ∷ 0x01 ∷ 0x01 ∷ 0x01 ∷ 0x00 ∷ []) (refuted 7 3)
-    -- P; Q; NOT P OR (R OR NOT Q); NOT R OR NOT S: one false clause is not there yet
+    -- P; Q; NOT P OR (R OR NOT Q); NOT R OR NOT S: no clause is false, since S stays dark
     ∷ ruled 4
     (0x01 ∷ 0x00 ∷ 0x01 ∷ 0x01 ∷ 0x04 ∷ 0x02 ∷ 0x01 ∷ 0x00 ∷ 0x04 ∷ 0x01 ∷ 0x02 ∷ 0x02 ∷ 0x01 ∷ 0x01 ∷ 0x04 ∷ 0x02 ∷ 0x01 ∷ 0x02 ∷ 0x02 ∷ 0x01 ∷ 0x03 ∷ [])
     (refuted 7 2)
     -- the same with NOT R in place of the last: some clause is false, though not all are
     ∷ ruled 4 (0x01 ∷ 0x00 ∷ 0x01 ∷ 0x01 ∷ 0x04 ∷ 0x02 ∷ 0x01 ∷ 0x00 ∷ 0x04 ∷ 0x01 ∷ 0x02 ∷ 0x02 ∷ 0x01 ∷ 0x01 ∷ 0x02 ∷ 0x01 ∷ 0x02 ∷ []) (theorem 2)
+    -- NOT P OR NOT Q OR R; NOT P OR Q; P; NOT R: the example of source document 001
+    ∷ ruled 4
+    (0x04 ∷ 0x02 ∷ 0x01 ∷ 0x00 ∷ 0x04 ∷ 0x02 ∷ 0x01 ∷ 0x01 ∷ 0x01 ∷ 0x02 ∷ 0x04 ∷ 0x02 ∷ 0x01 ∷ 0x00 ∷ 0x01 ∷ 0x01 ∷ 0x01 ∷ 0x00 ∷ 0x02 ∷ 0x01 ∷ 0x02 ∷ [])
+    (theorem 3)
     ∷ []

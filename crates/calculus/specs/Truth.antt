@@ -1,9 +1,9 @@
 -- The truth of a sequent in a state of its letters.
-use Rattle.std.specs.Prelude.{Bool, true, not, ◌&&◌, ◌||◌, ℕ, zero, suc, ◌/◌, ◌%◌, eqb}
+use Rattle.std.specs.Prelude.{◌≡◌, Bool, true, false, not, ◌&&◌, ◌||◌, ℕ, zero, suc, ◌/◌, ◌%◌, eqb}
 use Rattle.std.specs.Bool.{beq}
 use Rattle.calculus.specs.declared.Side.{Side}
 use Rattle.calculus.specs.declared.Side.TheVariants.{Left, Right}
-use Rattle.calculus.specs.Fold.{ANY}
+use Rattle.calculus.specs.Fold.{ANY, Each}
 use Rattle.calculus.specs.Syntax.{Binary, AND, OR, IMPLIES, EQUIV, Formula, letter, neg, join, Sequent, over}
 
 -- bit k of a state: letter k is true ("the lamp is lit")
@@ -33,4 +33,8 @@ truth σ = over ANY (says σ)
 
 -- true in every state
 abbrev pub Valid : Sequent → Type 0
-Valid S = (σ : ℕ) → mathlib.Core.Path.◌≡◌ (truth σ S) true
+Valid S = (σ : ℕ) → truth σ S ≡ true
+
+-- "makes each left formula true and each right one false"
+abbrev pub Refutes : ℕ → Sequent → Type 0
+Refutes σ S = Each (λ x. value σ x ≡ true) S.on_left × Each (λ x. value σ x ≡ false) S.on_right

@@ -81,6 +81,20 @@ pub struct Verdict {
     pub closings: u64,
 }
 
+// Where the rounds over clauses end: the letters that are true there, and the rounds that made one true.
+#[derive(Clone, Copy)]
+pub struct Settled {
+    pub state: u64,
+    pub rounds: usize,
+}
+
+// What clauses decide, with the rounds. A refuted question comes with its state.
+#[derive(Clone, Copy)]
+pub enum ClauseVerdict {
+    Theorem(usize),
+    Refuted(u64, usize),
+}
+
 // A part of a question's bytes.
 #[derive(Clone, Copy, Default)]
 pub struct Part {

@@ -2,7 +2,8 @@
 // and from the first, numbers 13 to 15 in their order, and refused questions.
 #![tactic(auto)]
 
-use clauses::{ClauseVerdict, NotClauses};
+use calculus::ClauseVerdict;
+use clauses::NotClauses;
 use print::Refused;
 use std::io;
 
@@ -19,7 +20,7 @@ fn ask(rt: &impl Print, q: &[u8]) -> io::Result<()> {
 }
 
 // No formulas; P; letter 63; P and NOT P; NOT P OR NOT Q; P, NOT P OR Q, NOT Q OR R, and the same from the last; P, Q,
-// NOT P OR (R OR NOT Q) with NOT R OR NOT S, and with NOT R.
+// NOT P OR (R OR NOT Q) with NOT R OR NOT S, and with NOT R; the example of source document 001.
 fn cases(rt: &impl Print) -> io::Result<()> {
     ask(rt, b"\x10\x00\x20\x00")?;
     ask(rt, b"\x10\x01\x01\x00\x20\x00")?;
@@ -41,6 +42,10 @@ fn cases(rt: &impl Print) -> io::Result<()> {
     ask(
         rt,
         b"\x10\x04\x01\x00\x01\x01\x04\x02\x01\x00\x04\x01\x02\x02\x01\x01\x02\x01\x02\x20\x00",
+    )?;
+    ask(
+        rt,
+        b"\x10\x04\x04\x02\x01\x00\x04\x02\x01\x01\x01\x02\x04\x02\x01\x00\x01\x01\x01\x00\x02\x01\x02\x20\x00",
     )
 }
 
@@ -70,10 +75,12 @@ fn outside(rt: &impl Print) -> io::Result<()> {
     ask(rt, b"\x10\x02\x04\x01\x00\x01\x00\x02\x02\x01\x01\x20\x00")
 }
 
+// A question that ends too early, one with letter 64, and one with a byte left over behind a 14 and a 13.
 fn main(rt: HostRuntime) -> io::Result<()> {
     cases(&rt)?;
     chains(&rt)?;
     outside(&rt)?;
     ask(&rt, b"\x10\x01\x02")?;
-    ask(&rt, b"\x10\x01\x01\x40\x20\x00")
+    ask(&rt, b"\x10\x01\x01\x40\x20\x00")?;
+    ask(&rt, b"\x10\x01\x02\x02\x01\x01\x20\x01\x01\x00\x00")
 }

@@ -1,6 +1,6 @@
 -- The answers of an accepted question, and what is promised of them.
 -- Assumes nothing.
-use Rattle.std.specs.Prelude.{Result, Ok, Err}
+use Rattle.std.specs.Prelude.{Result, Ok, Err, IfOk}
 use mathlib.Core.Path.{◌≡◌, refl, sym, ap, ap₂}
 use mathlib.Core.Bool.{Bool, true, false}
 use mathlib.Core.List.{List, [], ◌∷◌}
@@ -8,22 +8,22 @@ use Prim.Native.Nat.{ℕ, ◌<◌}
 use native.Mathlib.Omega.{arith}
 use lib.ListN.{length, get_or}
 use Rattle.calculus.specs.declared.Side.TheVariants.{Right}
+use Rattle.calculus.specs.declared.Settled.{Settled}
+use Rattle.calculus.specs.declared.ClauseVerdict.{ClauseVerdict}
+use Rattle.calculus.specs.declared.ClauseVerdict.TheVariants.{Theorem as theorem, Refuted as refuted}
 use Rattle.calculus.specs.Fold.{fold, ANY}
-use Rattle.calculus.specs.Limits.{LIMITS, RIGHT_FORMULA, NOT_CLAUSE, MANY_POSITIVE}
+use Rattle.calculus.specs.Limits.{LIMITS, RIGHT_FORMULA}
 use Rattle.calculus.specs.Syntax.{Formula, Sequent}
 use Rattle.calculus.specs.Bytes.{question, side_start}
 use Rattle.calculus.specs.Reading.{accepted, reading}
-use Rattle.calculus.specs.Clauses.{Clause, Profile, outside, clauses, profile_by, profile, Rest, rest, fails, Decision, theorem, refuted, judge, decided}
+use Rattle.calculus.specs.Truth.{Refutes}
+use Rattle.calculus.specs.Clauses.{Clause, Profile, outside, clauses, profile_by, profile, settled, fails, judge, decided, rounds_of, Correct}
 use Rattle.calculus.specs.Reply.{Reply, decision_reply, profile_reply}
 use Rattle.calculus.proofs.Bounds.{false_refutes}
 use Rattle.calculus.proofs.Readings.{accepted_question}
 use Rattle.calculus.proofs.Clauses.{decided_correct, decided_exactly, decided_agrees, rounds_letters}
-use Rattle.question.specs.Answers.{number_of, place_of}
-use Rattle.clauses.specs.declared.ClauseVerdict.{ClauseVerdict}
-use Rattle.clauses.specs.declared.ClauseVerdict.TheVariants.{Theorem, Refuted}
 use Rattle.clauses.specs.declared.NotClauses.{NotClauses}
-use Rattle.clauses.specs.declared.NotClauses.TheVariants.{Refused, RightFormula, NotClause, ManyPositive}
-use Rattle.clauses.specs.Answers.{reply_of, answer_of, Holds, Settles}
+use Rattle.clauses.specs.Answers.{reply_of, Decides}
 use Rattle.clauses.proofs.Profiles.{left_of}
 
 -- ---- a side
@@ -41,55 +41,46 @@ right_formula S at n e f h = go S.on_right f
 
 -- ---- what is promised
 
--- a decision has three values, a refusal one
-three : (d : Decision) → length (decision_reply d).values ≡ 3
+-- a verdict has three values, a refusal one
+three : (v : ClauseVerdict) → length (decision_reply v).values ≡ 3
 three (theorem n) = refl
 three (refuted σ n) = refl
 
-not_one : (d : Decision) (n at : ℕ) → record { number = n; values = at ∷ [] } ≡ decision_reply d → ⊥
-not_one d n at e = omega (arith, three d, ap (λ (r : Reply). length r.values) e)
+not_one : (v : ClauseVerdict) (n at : ℕ) → record { number = n; values = at ∷ [] } ≡ decision_reply v → ⊥
+not_one v n at e = omega (arith, three v, ap (λ (r : Reply). length r.values) e)
 
-answer_of_lem : (r : Result ClauseVerdict NotClauses) (d : Decision) → reply_of r ≡ decision_reply d → r ≡ Ok (answer_of d)
-answer_of_lem (Err (Refused r)) d e = absurd (not_one d (number_of r) (place_of r) e)
-answer_of_lem (Err (RightFormula at)) d e = absurd (not_one d RIGHT_FORMULA at e)
-answer_of_lem (Err (NotClause at)) d e = absurd (not_one d NOT_CLAUSE at e)
-answer_of_lem (Err (ManyPositive at)) d e = absurd (not_one d MANY_POSITIVE at e)
-answer_of_lem (Ok (Theorem m)) (theorem n) e = ap (λ (n : ℕ). Ok (Theorem n)) (ap (λ (r : Reply). get_or r.values 2 0) e)
-answer_of_lem (Ok (Theorem m)) (refuted σ n) e = absurd (omega (arith, ap (λ (r : Reply). get_or r.values 0 0) e))
-answer_of_lem (Ok (Refuted τ m)) (theorem n) e = absurd (omega (arith, ap (λ (r : Reply). get_or r.values 0 0) e))
-answer_of_lem (Ok (Refuted τ m)) (refuted σ n) e = ap₂ (λ (x y : ℕ). Ok (Refuted x y)) (ap (λ (r : Reply). get_or r.values 1 0) e) (ap (λ (r : Reply). get_or r.values 2 0) e)
+reply_tells : (v w : ClauseVerdict) → decision_reply v ≡ decision_reply w → v ≡ w
+reply_tells (theorem m) (theorem n) e = ap theorem (ap (λ (r : Reply). get_or r.values 2 0) e)
+reply_tells (theorem m) (refuted σ n) e = absurd (omega (arith, ap (λ (r : Reply). get_or r.values 0 0) e))
+reply_tells (refuted τ m) (theorem n) e = absurd (omega (arith, ap (λ (r : Reply). get_or r.values 0 0) e))
+reply_tells (refuted τ m) (refuted σ n) e = ap₂ (λ (x y : ℕ). refuted x y) (ap (λ (r : Reply). get_or r.values 1 0) e) (ap (λ (r : Reply). get_or r.values 2 0) e)
 
-abbrev rounds_of : Decision → ℕ
-rounds_of (theorem n) = n
-rounds_of (refuted σ n) = n
-
-rounds_judged : (b : Bool) (r : Rest) → rounds_of (judge b r) ≡ r.rounds
-rounds_judged true r = refl
-rounds_judged false r = refl
+rounds_judged : (b : Bool) (s : Settled) → rounds_of (judge b s) ≡ s.rounds
+rounds_judged true s = refl
+rounds_judged false s = refl
 
 module _ (q : List ℕ) (a : reading q ≡ accepted) where
-  decision_holds : (cs : List Clause) → profile (question q) ≡ clauses cs → (d : Decision) → decided cs ≡ d → Holds q d (rounds_of d)
-  decision_holds cs p d e =
+  refuting : (v : ClauseVerdict) → Correct (question q) v → (σ n : ℕ) → v ≡ refuted σ n → Refutes σ (question q)
+  refuting v h σ n e = false_refutes (question q) σ ((rw e at h).refutes)
+
+  decision_holds : (cs : List Clause) → profile (question q) ≡ clauses cs → Decides q (decided cs)
+  decision_holds cs p =
       record {
         read = a;
-        exactly = rw e at (decided_exactly (question q) cs p);
-        correct = rw e at (decided_correct (question q) cs p);
-        agrees = λ b. rw e at (decided_agrees (question q) cs p b);
-        rounds = omega (arith, ap rounds_of e, rounds_judged (fold ANY (fails (rest cs).state) cs) (rest cs), rounds_letters (question q) cs p LIMITS (accepted_question q a).0);
+        exactly = decided_exactly (question q) cs p;
+        correct = decided_correct (question q) cs p;
+        refutes = refuting (decided cs) (decided_correct (question q) cs p);
+        agrees = decided_agrees (question q) cs p;
+        rounds = omega (arith, rounds_judged (fold ANY (fails (settled cs).state) cs) (settled cs), rounds_letters (question q) cs p LIMITS (accepted_question q a).0);
       }
 
-  promised_decision : (d : Decision) → Holds q d (rounds_of d) → Settles q (Ok (answer_of d))
-  promised_decision (theorem n) h = h
-  promised_decision (refuted σ n) h = (h, false_refutes (question q) σ h.correct.refutes)
-
-  outside_promised : (r : Result ClauseVerdict NotClauses) (n at : ℕ) → reply_of r ≡ record { number = n; values = at ∷ [] } → Settles q r
-  outside_promised (Err r) n at e = tt
-  outside_promised (Ok (Theorem m)) n at e = absurd (not_one (theorem m) n at (sym e))
-  outside_promised (Ok (Refuted σ m)) n at e = absurd (not_one (refuted σ m) n at (sym e))
-
-  pub promised : (r : Result ClauseVerdict NotClauses) → reply_of r ≡ profile_reply (profile (question q)) → Settles q r
-  promised r e = go (profile (question q)) refl e
+  verdict_decides : (v : ClauseVerdict) → decision_reply v ≡ profile_reply (profile (question q)) → Decides q v
+  verdict_decides v e = go (profile (question q)) refl e
     where
-      go : (p : Profile) → profile (question q) ≡ p → reply_of r ≡ profile_reply p → Settles q r
-      go (outside n at) p e = outside_promised r n at e
-      go (clauses cs) p e = let i : r ≡ Ok (answer_of (decided cs)) = answer_of_lem r (decided cs) e in rw i (promised_decision (decided cs) (decision_holds cs p (decided cs) refl))
+      go : (p : Profile) → profile (question q) ≡ p → decision_reply v ≡ profile_reply p → Decides q v
+      go (outside n at) p e = absurd (not_one v n at (sym e))
+      go (clauses cs) p e = rw (reply_tells v (decided cs) e) (decision_holds cs p)
+
+  pub promised : (r : Result ClauseVerdict NotClauses) → reply_of r ≡ profile_reply (profile (question q)) → IfOk r (Decides q)
+  promised (Ok v) e = verdict_decides v e
+  promised (Err r) e = tt

@@ -1,6 +1,6 @@
 -- The laws behind the functions' proofs. Assumes nothing.
 pub mod Walks
-pub mod Words
+pub mod MaskTests
 pub mod Rounds
 pub mod Profiles
 pub mod Rights

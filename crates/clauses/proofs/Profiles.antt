@@ -11,11 +11,12 @@ use lib.ListN.{length, take, drop, length-append}
 use Rattle.std.specs.Prelude.{None, Some, Result, Ok, Err}
 use Rattle.calculus.specs.Fold.{Each, choose}
 use Rattle.calculus.specs.declared.Side.TheVariants.{Left}
+use Rattle.calculus.specs.declared.ClauseVerdict.{ClauseVerdict}
 use Rattle.calculus.specs.Limits.{FORMULAS, NOT_CLAUSE, MANY_POSITIVE}
 use Rattle.calculus.specs.Syntax.{Formula, Sequent}
 use Rattle.calculus.specs.Bytes.{question, side_start, encode, formulas, bytes, bytes_all, Lettered}
 use Rattle.calculus.specs.Reading.{accepted, reading}
-use Rattle.calculus.specs.Clauses.{Clause, both, clause_of, several, Profile, outside, clauses, prepend, admit, profile_from, light_all, Decision, theorem, refuted, decided}
+use Rattle.calculus.specs.Clauses.{Clause, both, clause_of, several, Profile, outside, clauses, prepend, admit, profile_from, light_all, decided}
 use Rattle.calculus.specs.Reply.{decision_reply, profile_reply}
 use Rattle.calculus.proofs.Rounds.{light_all_state}
 use Rattle.question.specs.declared.Ended.{Ended}
@@ -27,8 +28,7 @@ use Rattle.clauses.specs.declared.Masks.{Masks}
 use Rattle.clauses.specs.declared.Gathered.{Gathered}
 use Rattle.clauses.specs.declared.NotClauses.{NotClauses}
 use Rattle.clauses.specs.declared.NotClauses.TheVariants.{NotClause, ManyPositive}
-use Rattle.clauses.specs.declared.ClauseVerdict.{ClauseVerdict}
-use Rattle.clauses.specs.Answers.{reply_of, answer_of}
+use Rattle.clauses.specs.Answers.{reply_of}
 use Rattle.clauses.specs.Walks.{start_at, clause_all, with_clause, total, Within}
 use Rattle.clauses.specs.Masks.{masks_of, clause_by, clause_at}
 
@@ -221,14 +221,9 @@ module _ {q : List ℕ} {all : Profile} {n : ℕ} {ms : List Masks} {e i : ℕ} 
                 ∙ ap (prepends s.done) (sym (admitted c false k g)) ∙ now_same);
           })
 
-pub reply_answer : (d : Decision) → reply_of (Ok (answer_of d)) ≡ decision_reply d
-reply_answer (theorem n) = refl
-reply_answer (refuted σ n) = refl
-
 -- all are stored
 pub storing_last : {q : List ℕ} {all : Profile} {n : ℕ} {ms : List Masks} {e i : ℕ} → Storing q all n ms e i → n ≤ i → (v : ClauseVerdict)
-    → ((cs : List Clause) → ms ≡ map masks_of cs → v ≡ answer_of (decided cs)) → reply_of (Ok v) ≡ profile_reply (all)
+    → ((cs : List Clause) → ms ≡ map masks_of cs → v ≡ decided cs) → reply_of (Ok v) ≡ profile_reply all
 storing_last {n = n} {ms = ms} {i = i} s h v f =
     let z : n - i ≡ 0 = omega arith in
-    ap (λ (v : ClauseVerdict). reply_of (Ok v)) (f s.done s.stored) ∙ reply_answer (decided s.done)
-    ∙ ap profile_reply (sym (prepends_all s.done) ∙ rw z at s.same)
+    ap decision_reply (f s.done s.stored) ∙ ap profile_reply (sym (prepends_all s.done) ∙ rw z at s.same)

@@ -13,14 +13,14 @@ use lib.ListN.{length}
 use Rattle.std.proofs.lemmas.List.{length-map}
 use Rattle.std.specs.List.{HoldsAt, AllWithin}
 use Rattle.std.specs.Prelude.{MatchBool}
+use Rattle.calculus.specs.declared.Settled.{Settled}
 use Rattle.calculus.specs.Fold.{fold, ANY, choose}
 use Rattle.calculus.specs.Tree.{state}
-use Rattle.calculus.specs.Clauses.{Clause, met, fired, light_all, round, Rest, further, rounds_by, rest}
+use Rattle.calculus.specs.Clauses.{Clause, met, fired, light_all, round, until, rounds_by, settled}
 use Rattle.calculus.proofs.Rounds.{light_all_append}
 use Rattle.clauses.specs.declared.Masks.{Masks}
-use Rattle.clauses.specs.declared.Settled.{Settled}
-use Rattle.clauses.specs.Masks.{masks_of, settled_of}
-use Rattle.clauses.proofs.Words.{light_mask}
+use Rattle.clauses.specs.Masks.{masks_of}
+use Rattle.clauses.proofs.MaskTests.{light_mask}
 
 -- ---- the last clause of a list
 
@@ -51,7 +51,7 @@ fired_snoc σ (d ∷ cs) c = go (met σ d) (fired σ (cs ++ c ∷ [])) (fired_sn
     go true l e = ap (λ (k : List ℕ). d.positive ++ k) e ∙ sym (append_assoc d.positive (fired σ cs) (fired σ (c ∷ [])))
     go false l e = e
 
--- what is lit after the clauses of a list
+-- what is lit ahead the clauses of a list
 abbrev pub InRound : ℕ → List Masks → ℕ → Type 0
 InRound σ ms lit = (cs : List Clause) → ms ≡ map masks_of cs → lit ≡ round cs σ
 
@@ -69,27 +69,27 @@ round_next σ ms lit m r v f cs e =
 
 -- ---- the rounds
 
--- with rounds made already
-abbrev pub after : ℕ → Rest → Settled
-after m r = record { state = r.state; rounds = m + r.rounds }
+-- with m rounds made already
+abbrev pub ahead : ℕ → Settled → Settled
+ahead m s = record { state = s.state; rounds = m + s.rounds }
 
 -- the rounds so far and those ahead are all
 abbrev pub InRounds : List Masks → ℕ → ℕ → Type 0
-InRounds ms σ m = (cs : List Clause) → ms ≡ map masks_of cs → after m (rounds_by (length ms - m) cs σ) ≡ settled_of (rest cs)
+InRounds ms σ m = (cs : List Clause) → ms ≡ map masks_of cs → ahead m (rounds_by (length ms - m) cs σ) ≡ settled cs
 
 pub rounds_first : (ms : List Masks) → InRounds ms 0 0
 rounds_first ms cs s =
     let e : length ms - 0 ≡ length cs = omega (arith, ap length s, length-map cs masks_of) in
-    ap (λ (n : ℕ). after 0 (rounds_by n cs 0)) e ∙ (λ j. record { state = (rest cs).state; rounds = zero-add (rest cs).rounds j })
+    ap (λ (n : ℕ). ahead 0 (rounds_by n cs 0)) e ∙ (λ j. record { state = (settled cs).state; rounds = zero-add (settled cs).rounds j })
 
 module _ (ms : List Masks) (σ m next : ℕ) (v : InRounds ms σ m) (h : m < length ms) (f : (cs : List Clause) → ms ≡ map masks_of cs → next ≡ round cs σ) where
-  unrolled : (cs : List Clause) → ms ≡ map masks_of cs → after m (further (eqb next σ) σ next (λ τ. rounds_by (length ms - (m + 1)) cs τ)) ≡ settled_of (rest cs)
+  unrolled : (cs : List Clause) → ms ≡ map masks_of cs → ahead m (until (eqb next σ) σ next (λ τ. rounds_by (length ms - (m + 1)) cs τ)) ≡ settled cs
   unrolled cs s =
       let e : suc (length ms - (m + 1)) ≡ length ms - m = omega arith in
-      ap (λ (τ : ℕ). after m (further (eqb τ σ) σ τ (λ ρ. rounds_by (length ms - (m + 1)) cs ρ))) (f cs s)
-      ∙ ap (λ (n : ℕ). after m (rounds_by n cs σ)) e ∙ v cs s
+      ap (λ (τ : ℕ). ahead m (until (eqb τ σ) σ τ (λ ρ. rounds_by (length ms - (m + 1)) cs ρ))) (f cs s)
+      ∙ ap (λ (n : ℕ). ahead m (rounds_by n cs σ)) e ∙ v cs s
 
-  pub rounds_stop : next ≡ σ → (cs : List Clause) → ms ≡ map masks_of cs → record { state = σ; rounds = m } ≡ settled_of (rest cs)
+  pub rounds_stop : next ≡ σ → (cs : List Clause) → ms ≡ map masks_of cs → record { state = σ; rounds = m } ≡ settled cs
   rounds_stop e cs s = (λ j. record { state = σ; rounds = sym (add-zero m) j }) ∙ rw (eq-eqb next σ e) at (unrolled cs s)
 
   pub rounds_next : (next ≡ σ → ⊥) → InRounds ms next (m + 1)
@@ -98,7 +98,7 @@ module _ (ms : List Masks) (σ m next : ℕ) (v : InRounds ms σ m) (h : m < len
       let i : m + 1 + r.rounds ≡ m + suc r.rounds = omega arith in
       (λ j. record { state = r.state; rounds = i j }) ∙ rw (ne_eqb next σ e) at (unrolled cs s)
 
-pub rounds_last : (ms : List Masks) (σ m : ℕ) → InRounds ms σ m → length ms ≤ m → (cs : List Clause) → ms ≡ map masks_of cs → record { state = σ; rounds = m } ≡ settled_of (rest cs)
+pub rounds_last : (ms : List Masks) (σ m : ℕ) → InRounds ms σ m → length ms ≤ m → (cs : List Clause) → ms ≡ map masks_of cs → record { state = σ; rounds = m } ≡ settled cs
 rounds_last ms σ m v h cs s =
     let e : length ms - m ≡ 0 = omega arith in
     (λ j. record { state = σ; rounds = sym (add-zero m) j }) ∙ rw e at (v cs s)

@@ -3,11 +3,10 @@ use Rattle.std.proofs.Math.Option.{Option, none, some}
 use Rattle.std.specs.Prelude.{Result, Ok, Err, List, ℕ}
 use Rattle.calculus.specs.Fold.{choose}
 use Rattle.calculus.specs.Tree.{state}
-use Rattle.calculus.specs.Clauses.{Clause, clause_of, several, Rest}
+use Rattle.calculus.specs.Clauses.{Clause, clause_of, several}
 use Rattle.question.specs.declared.Ended.{Ended}
 use Rattle.question.specs.Positions.{formula_at, end_of}
 use Rattle.clauses.specs.declared.Masks.{Masks}
-use Rattle.clauses.specs.declared.Settled.{Settled}
 use Rattle.clauses.specs.declared.NotClauses.{NotClauses}
 use Rattle.clauses.specs.declared.NotClauses.TheVariants.{NotClause, ManyPositive}
 
@@ -23,6 +22,3 @@ clause_by (some c) at e = choose (several c.positive) (Err (ManyPositive at)) (O
 -- that of the formula at a position
 abbrev pub clause_at : List ℕ → ℕ → Result (Ended Masks) NotClauses
 clause_at q at = clause_by (clause_of (formula_at q at)) at (end_of q at)
-
-abbrev pub settled_of : Rest → Settled
-settled_of r = record { state = r.state; rounds = r.rounds }

@@ -1,21 +1,22 @@
 // The house rules as clauses: a question whose right side is empty and whose left formulas are clauses with at most one
-// letter without NOT is decided by unit clauses alone. A set of letters is a mask, letter k as bit k.
+// letter without NOT (Horn clauses) is decided by unit clauses alone (unit propagation). A set of letters is a mask, letter
+// k as bit k.
 #![tactic(auto)]
 
-ghost use Rattle.std.specs.Prelude.{◌≡◌, List, [], ◌∷◌, map, ◌≤◌};
+ghost use Rattle.std.specs.Prelude.{◌≡◌, List, [], ◌∷◌, map, ◌≤◌, IfOk};
 ghost use Rattle.calculus.specs.Fold.{fold, ANY};
 ghost use Rattle.calculus.specs.Bytes.{question, side_start, Lettered};
 ghost use Rattle.calculus.specs.Tree.{state};
-ghost use Rattle.calculus.specs.Clauses.{Clause, profile_from, profile, met, fired, round, rest, fails, decided};
+ghost use Rattle.calculus.specs.Clauses.{Clause, profile_from, profile, met, fired, round, settled, fails, decided};
 ghost use Rattle.calculus.specs.Reply.{profile_reply, clauses_reply};
 ghost use Rattle.question.specs.Positions.{Well, formula_at};
 ghost use Rattle.clauses.specs.Walks.{start_at, total, total_of, Within, Onward};
-ghost use Rattle.clauses.specs.Masks.{masks_of, settled_of, clause_at};
-ghost use Rattle.clauses.specs.Answers.{reply_of, answer_of, Settles};
+ghost use Rattle.clauses.specs.Masks.{masks_of, clause_at};
+ghost use Rattle.clauses.specs.Answers.{reply_of, Decides};
 ghost use Rattle.clauses.specs.declared.NotClauses.TheVariants.{Refused};
 
 use arrayvec::ArrayVec;
-use calculus::Side;
+use calculus::{ClauseVerdict, Settled, Side};
 use question::{ALL_FORMULAS, Ended, Question, Refusal};
 
 // A clause: its letters under NOT, and its letters without NOT.
@@ -72,7 +73,7 @@ impl Gathered {
     }
 
     // One command with its operands: a letter, NOT of a letter, or OR, whose two parts are due in its place. A clause has
-    // no other. Commands stay bytes: by question's enum clauses took 1.07 to 1.09 times as long, 1.16 of what they took.
+    // no other. Commands stay bytes: with question's enum clauses take 1.07 to 1.09 times as long (DECISIONS 103).
     fn step(self, q: &[u8]) -> Option<Gathered>
         requires { Within q.now self × (1 ≤ self.due) }
         ensures { (total_of q.now result ≡ total q.now self) × Onward q.now self.at result }
@@ -106,7 +107,7 @@ impl Gathered {
         }
     }
 
-    // All formulas that are due, command by command: a range does not know how many there are.
+    // All formulas that are due, command by command: how many commands that is, is not known before, so this is no `for`.
     fn all(self, q: &[u8]) -> Option<Gathered>
         requires { Within q.now self }
         ensures { result ≡ total q.now self }
@@ -151,25 +152,19 @@ fn clause_at(q: &[u8], at: usize) -> Result<Ended<Masks>, NotClauses>
     })
 }
 
-// The state after a round over the clauses. Here and below a contract speaks of any clauses that have these masks: a type for
-// both would hold the clauses once more. A clause that is not met joins an empty mask: with a `filter` chains take twice the
-// time.
+// The state after a round over the clauses. Here and below a contract speaks of any clauses that have these masks: a struct
+// with the clauses in a ghost field would have them twice. A clause that is not met joins an empty mask: with a `filter`
+// chains take 1.9 times as long (DECISIONS 80).
 fn round(clauses: &[Masks], state: u64) -> u64
     ensures { (cs : List Clause) → clauses.now ≡ map masks_of cs → result ≡ round cs state }
 {
-    clauses.iter().fold(state, |lit, c| lit | c.fired(state))
+    clauses.iter().fold(state, |next, c| next | c.fired(state))
 }
 
-// The state in which the rounds end, and how many of them lit a letter.
-#[derive(Clone, Copy)]
-pub struct Settled {
-    pub state: u64,
-    pub rounds: usize,
-}
-
-// Rounds until one lights none. Each that lights a letter takes it from another clause.
+// Rounds until one lights none. Each that lights a letter takes it from a clause that lit none before, so there are at most
+// as many as clauses.
 fn settle(clauses: &[Masks]) -> Settled
-    ensures { (cs : List Clause) → clauses.now ≡ map masks_of cs → result ≡ settled_of (rest cs) }
+    ensures { (cs : List Clause) → clauses.now ≡ map masks_of cs → result ≡ settled cs }
 {
     let mut state = 0;
     for rounds in 0..clauses.len() {
@@ -192,17 +187,9 @@ fn some_fails(clauses: &[Masks], lit: u64) -> bool
     clauses.iter().any(|c| c.fails(lit))
 }
 
-// What clauses decide: the rounds that lit a letter, with the state of a refuted question. Two cases, as a verdict's kind has
-// them, by the Rust wrapper's name.
-#[derive(Clone, Copy)]
-pub enum ClauseVerdict {
-    Theorem(usize),
-    Refuted(u64, usize),
-}
-
-// What clauses decide.
+// The rounds, and then whether some clause is false.
 fn decide(clauses: &[Masks]) -> ClauseVerdict
-    ensures { (cs : List Clause) → clauses.now ≡ map masks_of cs → result ≡ answer_of (decided cs) }
+    ensures { (cs : List Clause) → clauses.now ≡ map masks_of cs → result ≡ decided cs }
 {
     let s = settle(clauses);
     if some_fails(clauses, s.state) {
@@ -227,8 +214,8 @@ fn decide_left(q: Question<'_>) -> Result<ClauseVerdict, NotClauses>
     Ok(decide(clauses.as_slice()))
 }
 
-// An accepted question. Every formula ends with a letter's command and operand, so the last byte but one tells if the
-// right side is empty.
+// Decides an accepted question: 13, or what its left side comes to. Every formula ends with a letter's command and operand,
+// so the last byte but one tells if the right side is empty.
 fn decide_accepted(q: Question<'_>) -> Result<ClauseVerdict, NotClauses>
     ensures { reply_of result ≡ profile_reply (profile (question q.entry.bytes.now)) }
 {
@@ -242,7 +229,7 @@ fn decide_accepted(q: Question<'_>) -> Result<ClauseVerdict, NotClauses>
 // Decides a question of the profile by unit clauses alone.
 pub fn decide_clauses(q: &[u8]) -> Result<ClauseVerdict, NotClauses>
     ensures reply { reply_of result ≡ clauses_reply q.now }
-    ensures settles { Settles q.now result }
+    ensures decides { IfOk result (Decides q.now) }
 {
     decide_accepted(Question::read(q)?)
 }

@@ -17,13 +17,13 @@ ghost use Rattle.writer.specs.Answers.{unproved, answer_of, Evidence};
 ghost use Rattle.checker.specs.Answers.{fault_number, fault_place, check_of};
 ghost use Rattle.states.specs.Answers.{listing_of, Lists};
 ghost use Rattle.spelling.specs.Answers.{spelling_of, Spells};
-ghost use Rattle.clauses.specs.Answers.{reply_of, Settles};
+ghost use Rattle.clauses.specs.Answers.{reply_of, Decides};
 ghost use Rattle.gekunday.specs.Words.{filled, Holds, Tells, Decided, decide_words, part_words};
 ghost use Rattle.gekunday.specs.Words.{formula_words};
 
-use calculus::{Kind, Part, Side, Verdict};
+use calculus::{ClauseVerdict, Kind, Part, Side, Verdict};
 use checker::NotPassed;
-use clauses::{ClauseVerdict, NotClauses};
+use clauses::NotClauses;
 use question::Refusal;
 use spelling::NotSpelled;
 use states::NotListed;
@@ -95,7 +95,7 @@ pub fn spell(q: &[u8], buffer: &mut [u8]) -> Result<usize, NotSpelled>
 // Decides a question of the clause profile by unit clauses alone.
 pub fn decide_clauses(q: &[u8]) -> Result<ClauseVerdict, NotClauses>
     ensures reply { reply_of result ≡ clauses_reply q.now }
-    ensures settles { Settles q.now result }
+    ensures decides { IfOk result (Decides q.now) }
 {
     clauses::decide_clauses(q)
 }

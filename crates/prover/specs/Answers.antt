@@ -3,11 +3,10 @@ use Rattle.std.specs.Prelude.{◌≡◌, ◌≢◌, ◌↔◌, true, false, List
 use Rattle.calculus.specs.declared.Kind.{Kind}
 use Rattle.calculus.specs.declared.Kind.TheVariants.{Theorem, Refuted, Spent, Full}
 use Rattle.calculus.specs.declared.Verdict.{Verdict}
-use Rattle.calculus.specs.Fold.{Each}
 use Rattle.calculus.specs.Syntax.{Sequent, c}
 use Rattle.calculus.specs.Bytes.{question}
 use Rattle.calculus.specs.Reading.{accepted, reading}
-use Rattle.calculus.specs.Truth.{value, Valid}
+use Rattle.calculus.specs.Truth.{Valid, Refutes}
 use Rattle.calculus.specs.Tree.{tree, reductions, closings, closings_before}
 use Rattle.calculus.specs.Width.{W}
 use Rattle.calculus.specs.Reply.{Reply, verdict_reply}
@@ -23,7 +22,7 @@ decision_of (Err r) = record { number = number_of r; values = place_of r ∷ [] 
 pub record Truthful (S : Sequent) (v : Verdict) : Type 0 where
   pub sound : v.kind ≡ Theorem → Valid S
   pub complete : v.kind ≢ Spent → v.kind ≢ Full → Valid S → v.kind ≡ Theorem
-  pub refutes : (σ : ℕ) → v.kind ≡ Refuted σ → Each (λ x. value σ x ≡ true) S.on_left × Each (λ x. value σ x ≡ false) S.on_right
+  pub refutes : (σ : ℕ) → v.kind ≡ Refuted σ → Refutes σ S
 
 -- 1 where a sequent is open
 abbrev pub open_one : Kind → ℕ

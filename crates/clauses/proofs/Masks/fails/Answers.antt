@@ -1,5 +1,5 @@
 use Rattle.std.proofs.Common.{sym, ◌∙◌}
-use Rattle.clauses.proofs.Words.{fails_test}
+use Rattle.clauses.proofs.MaskTests.{fails_test}
 use Rattle.clauses.proofs.Masks.fails.Goals as goal
 
 pub returns-then-is_met : goal.returns-then-is_met

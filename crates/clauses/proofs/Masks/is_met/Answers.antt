@@ -1,4 +1,4 @@
-use Rattle.clauses.proofs.Words.{met_test}
+use Rattle.clauses.proofs.MaskTests.{met_test}
 use Rattle.clauses.proofs.Masks.is_met.Goals as goal
 
 pub returns : goal.returns
