@@ -5,7 +5,7 @@ use mathlib.Core.Logic.{◌≢◌, ◌↔◌}
 use mathlib.Core.Bool.{Bool, true, false, ◌&&◌, false≢true}
 use mathlib.Core.Option.{Option}
 use mathlib.Core.List.{List, [], ◌∷◌}
-use Prim.Native.Nat.{ℕ, ◌+◌, ◌*◌, ◌^◌, ◌≤◌, ◌<◌}
+use Prim.Native.Nat.{ℕ, ◌+◌, ◌*◌, ◌^◌, ◌≤◌}
 use native.Mathlib.Nat.{pow-suc, le-mul_of_pos_right, mul_comm, mul-add, one-le-mul, mul-le-mul, mul-le-mul_right, le_refl, add-mul}
 use native.Mathlib.Omega.{arith}
 use borrow.Author.Tests.{not-false}
@@ -13,17 +13,15 @@ use lib.Pow.{pow_pos, pow-add}
 use Rattle.calculus.specs.declared.Side.{Side}
 use Rattle.calculus.specs.declared.Side.TheVariants.{Left, Right}
 use Rattle.calculus.specs.declared.Kind.{Kind}
-use Rattle.calculus.specs.declared.Kind.TheVariants.{Theorem, Refuted, Spent, Full}
+use Rattle.calculus.specs.declared.Kind.TheVariants.{Theorem, Refuted, Spent}
 use Rattle.calculus.specs.Fold.{fold, ANY, ALL, SUM, PRODUCT, Each}
-use Rattle.calculus.specs.Limits.{ROOM}
-use Rattle.calculus.specs.Syntax.{other, Binary, AND, OR, IMPLIES, EQUIV, Formula, letter, neg, join, Sequent, over, connectives, c, size}
+use Rattle.calculus.specs.Syntax.{other, Binary, AND, OR, IMPLIES, EQUIV, Formula, letter, neg, join, Sequent, connectives, c}
 use Rattle.calculus.specs.Truth.{value, says, truth, Valid, Refutes}
 use Rattle.calculus.specs.Table.{premises}
-use Rattle.calculus.specs.Tree.{Way, closing, Step, closed, opened, full, reduced, Event, Tree, follow, chain, grow, tree_by, tree, is_reduce, is_close, reductions, closings}
+use Rattle.calculus.specs.Tree.{Way, closing, Step, closed, opened, reduced, Event, Tree, follow, chain, grow, tree_by, tree, is_reduce, is_close, reductions, closings}
 use Rattle.calculus.specs.Width.{wide, width, W}
 use Rattle.calculus.proofs.Folds.{fold_append, or_false_both, each_false}
-use Rattle.calculus.proofs.Rules.{weight}
-use Rattle.calculus.proofs.Sequents.{truth_premises, width_premises, weight_size, Smaller, smaller}
+use Rattle.calculus.proofs.Sequents.{truth_premises, width_premises, Smaller, smaller}
 use Rattle.calculus.proofs.Trees.{Sound, closing_sound, Right_step, closed_true, tree_by_ind}
 
 -- ---- a width is at least 1
@@ -52,64 +50,51 @@ W_pos S = one-le-mul (fold_pos (width Left) (width_pos Left) S.on_left) (fold_po
 
 -- ---- what holds of a sequent's tree
 
--- what an end says of the truth b, in each state, and of the weight m
-abbrev pub Claim : (ℕ → Bool) → ℕ → Kind → Type 0
-Claim b m Theorem = (σ : ℕ) → b σ ≡ true
-Claim b m (Refuted σ) = b σ ≡ false
-Claim b m Spent = ⊥
-Claim b m Full = ROOM < m
+-- what an end says of the truth b, in each state
+abbrev pub Claim : (ℕ → Bool) → Kind → Type 0
+Claim b Theorem = (σ : ℕ) → b σ ≡ true
+Claim b (Refuted σ) = b σ ≡ false
+Claim b Spent = ⊥
 
--- 1 where a sequent is open, or gives FULL
+-- 1 where a sequent is open
 abbrev pub early : Kind → ℕ
 early Theorem = 0
 early (Refuted σ) = 1
 early Spent = 1
-early Full = 1
 
--- a tree of what is true as b says, w wide, with fewer than n connectives, of weight at most m
-pub record Meets (b : ℕ → Bool) (w n m : ℕ) (t : Tree) : Type 0 where
-  pub verdict : Claim b m t.end
+-- a tree of what is true as b says, w wide, with fewer than n connectives
+pub record Meets (b : ℕ → Bool) (w n : ℕ) (t : Tree) : Type 0 where
+  pub verdict : Claim b t.end
   pub leaves : closings t.events + early t.end ≤ w
   pub used : reductions t.events + w ≤ n * w
 
-follow_claim : (a b : ℕ → Bool) (m : ℕ) (es : List Event) (e : Kind) (u : Tree) → Claim a m e → Claim b m u.end
-    → Claim (λ σ. a σ && b σ) m (follow es e u).end
-follow_claim a b m es (Refuted σ) u h k = rw h
-follow_claim a b m es Spent u h k = h
-follow_claim a b m es Full u h k = h
-follow_claim a b m es Theorem u h k = go u.end k
+follow_claim : (a b : ℕ → Bool) (es : List Event) (e : Kind) (u : Tree) → Claim a e → Claim b u.end → Claim (λ σ. a σ && b σ) (follow es e u).end
+follow_claim a b es (Refuted σ) u h k = rw h
+follow_claim a b es Spent u h k = h
+follow_claim a b es Theorem u h k = go u.end k
   where
-    go : (e : Kind) → Claim b m e → Claim (λ σ. a σ && b σ) m e
+    go : (e : Kind) → Claim b e → Claim (λ σ. a σ && b σ) e
     go Theorem k = λ σ. rw (h σ, k σ)
     go (Refuted σ) k = rw (h σ) k
     go Spent k = k
-    go Full k = k
 
 follow_leaves : (es : List Event) (e : Kind) (u : Tree) (v w : ℕ) → closings es + early e ≤ v → closings u.events + early u.end ≤ w
     → closings (follow es e u).events + early (follow es e u).end ≤ v + w
 follow_leaves es Theorem u v w h k = omega (arith, fold_append SUM is_close es u.events)
 follow_leaves es (Refuted σ) u v w h k = omega arith
 follow_leaves es Spent u v w h k = omega arith
-follow_leaves es Full u v w h k = omega arith
 
 follow_used : (es : List Event) (e : Kind) (u : Tree) → reductions (follow es e u).events ≤ reductions es + reductions u.events
 follow_used es Theorem u = omega (arith, fold_append SUM is_reduce es u.events)
 follow_used es (Refuted σ) u = omega arith
 follow_used es Spent u = omega arith
-follow_used es Full u = omega arith
 
 abbrev pub Fine : Sequent → Tree → Type 0
-Fine S t = Meets (λ σ. truth σ S) (W S) (1 + c S) (over SUM weight S) t
+Fine S t = Meets (λ σ. truth σ S) (W S) (1 + c S) t
 
 -- the premises of S: all of them true, as wide as they are together
 abbrev Fines : Sequent → List Sequent → Tree → Type 0
-Fines S Ps t = Meets (λ σ. fold ALL (truth σ) Ps) (fold SUM W Ps) (c S) (over SUM weight S) t
-
-heavier : (b : ℕ → Bool) (m m' : ℕ) → m ≤ m' → (e : Kind) → Claim b m e → Claim b m' e
-heavier b m m' l Theorem h = h
-heavier b m m' l (Refuted σ) h = h
-heavier b m m' l Spent h = h
-heavier b m m' l Full h = omega arith
+Fines S Ps t = Meets (λ σ. fold ALL (truth σ) Ps) (fold SUM W Ps) (c S) t
 
 chain_fine : (r : Sequent → Tree) (S : Sequent) → ((P : Sequent) → Smaller S P → Fine P (r P)) → (Ps : List Sequent) → Each (Smaller S) Ps
     → Fines S Ps (chain r Ps)
@@ -118,8 +103,7 @@ chain_fine r S h (P ∷ Ps) l =
     let p = h P l.0 in
     let q = chain_fine r S h Ps l.1 in
     record {
-      verdict = follow_claim (λ σ. truth σ P) (λ σ. fold ALL (truth σ) Ps) (over SUM weight S) (r P).events (r P).end (chain r Ps)
-          (heavier (λ σ. truth σ P) (over SUM weight P) (over SUM weight S) l.0.1 (r P).end p.verdict) q.verdict;
+      verdict = follow_claim (λ σ. truth σ P) (λ σ. fold ALL (truth σ) Ps) (r P).events (r P).end (chain r Ps) p.verdict q.verdict;
       leaves = follow_leaves (r P).events (r P).end (chain r Ps) (W P) (fold SUM W Ps) p.leaves q.leaves;
       used = omega (arith, follow_used (r P).events (r P).end (chain r Ps), mul-add (c S) (W P) (fold SUM W Ps), mul-le-mul_right (W P) l.0.0, p.used, q.used);
     }
@@ -127,7 +111,6 @@ chain_fine r S h (P ∷ Ps) l =
 grow_fine : (r : Sequent → Tree) (S : Sequent) (t : Step) → Right_step S t → ((P : Sequent) → Smaller S P → Fine P (r P)) → Fine S (grow r S t)
 grow_fine r S (closed w) p h = record { verdict = closed_true S w p; leaves = W_pos S; used = omega (arith, add-mul 1 (c S) (W S)) }
 grow_fine r S (opened σ) p h = record { verdict = p; leaves = W_pos S; used = omega (arith, add-mul 1 (c S) (W S)) }
-grow_fine r S full p h = record { verdict = p; leaves = W_pos S; used = omega (arith, add-mul 1 (c S) (W S)) }
 grow_fine r S (reduced s i x) p h =
     let e = width_premises s i x S p in
     let q = chain_fine r S h (premises s i x S) (smaller s i x S p) in
@@ -156,22 +139,17 @@ false_refutes S σ e =
 pub refuted_false : (S : Sequent) (σ : ℕ) → (tree S).end ≡ Refuted σ → Refutes σ S
 refuted_false S σ e = false_refutes S σ (rw e at (tree_fine S).verdict)
 
--- without FULL, a theorem exactly if true in every state
-pub theorem_exactly : (S : Sequent) → (tree S).end ≢ Full → ((tree S).end ≡ Theorem) ↔ Valid S
-theorem_exactly S f = (theorem_true S, λ v. go v (tree S).end f (tree_fine S).verdict)
-  where
-    go : Valid S → (e : Kind) → e ≢ Full → Claim (λ σ. truth σ S) (over SUM weight S) e → e ≡ Theorem
-    go v Theorem n p = refl
-    go v (Refuted σ) n p = absurd (false≢true (sym p ∙ v σ))
-    go v Spent n p = absurd p
-    go v Full n p = absurd (n refl)
+pub claimed_theorem : (S : Sequent) → Valid S → (e : Kind) → Claim (λ σ. truth σ S) e → e ≡ Theorem
+claimed_theorem S v Theorem p = refl
+claimed_theorem S v (Refuted σ) p = absurd (false≢true (sym p ∙ v σ))
+claimed_theorem S v Spent p = absurd p
+
+-- a theorem exactly if true in every state
+pub theorem_exactly : (S : Sequent) → ((tree S).end ≡ Theorem) ↔ Valid S
+theorem_exactly S = (theorem_true S, λ v. claimed_theorem S v (tree S).end (tree_fine S).verdict)
 
 pub never_spent : (S : Sequent) → (tree S).end ≢ Spent
 never_spent S e = rw e at (tree_fine S).verdict
-
--- with no more formulas and connectives than a running sequent may hold, the tree is never FULL
-pub never_full : (S : Sequent) → size S + c S ≤ ROOM → (tree S).end ≢ Full
-never_full S h e = omega (arith, weight_size S, rw e at (tree_fine S).verdict)
 
 pub reductions_bound : (S : Sequent) → reductions (tree S).events ≤ c S * W S
 reductions_bound S = omega (arith, (tree_fine S).used, add-mul 1 (c S) (W S))

@@ -2,23 +2,24 @@
 -- Assumes nothing.
 use mathlib.Core.Path.{◌≡◌, refl, sym, ap, ◌∙◌, fun_ext}
 use mathlib.Core.Logic.{◌≢◌, ◌↔◌}
+use mathlib.Core.Option.{Option, none, some}
 use mathlib.Core.List.{List, [], ◌∷◌, ◌++◌}
 use Prim.Native.Nat.{ℕ, zero, suc, ◌+◌, ◌-◌, ◌≤◌, ◌<◌}
 use native.Mathlib.Decide.{dec_lt}
-use native.Mathlib.Nat.{add_assoc, sub-zero, zero-add}
+use native.Mathlib.Nat.{add_assoc, sub-zero, zero-add, le_refl}
 use native.Mathlib.Numerals.{sub-one}
 use native.Mathlib.Omega.{arith}
 use Rattle.calculus.specs.declared.Kind.{Kind}
-use Rattle.calculus.specs.declared.Kind.TheVariants.{Theorem, Refuted, Spent, Full}
+use Rattle.calculus.specs.declared.Kind.TheVariants.{Theorem, Refuted, Spent}
 use Rattle.calculus.specs.declared.Outcome.{Outcome}
 use Rattle.calculus.specs.declared.Verdict.{Verdict}
 use Rattle.calculus.specs.Fold.{Each}
 use Rattle.calculus.specs.Syntax.{Sequent, c}
 use Rattle.calculus.specs.Table.{premises}
-use Rattle.calculus.specs.Tree.{Step, closed, opened, full, reduced, step, Event, close, reduce, Tree, follow, chain, grow, tree, reductions, closings, pairings, one_more, spend, outcome, verdict, closings_before, afford, inner, and_then, pass, act, run_by, run}
+use Rattle.calculus.specs.Tree.{Way, closing, missing, Step, closed, opened, reduced, tests, step, Event, close, reduce, Tree, follow, chain, grow, tree, reductions, closings, pairings, one_more, spend, outcome, verdict, closings_before, afford, inner, and_then, pass, act, bare, run_by, run}
 use Rattle.calculus.proofs.Folds.{each}
 use Rattle.calculus.proofs.Sequents.{Smaller, smaller}
-use Rattle.calculus.proofs.Trees.{Right_step, right_step, tree_grows}
+use Rattle.calculus.proofs.Trees.{Right_step, right_step, bare_tests, tree_grows}
 use Rattle.calculus.proofs.Bounds.{never_spent}
 
 -- ---- what is reported
@@ -107,7 +108,6 @@ spend_append b (close w ∷ es) fs e = rw (spend_append b es fs e) (count_after 
     count_after Theorem o u = simp (one_more, add_assoc)
     count_after (Refuted σ) o u = refl
     count_after Spent o u = refl
-    count_after Full o u = refl
 spend_append zero (reduce s i k ∷ es) fs e = refl
 spend_append (suc b) (reduce s i k ∷ es) fs e = spend_append b es fs e
 
@@ -123,7 +123,6 @@ spend_follow : (b : ℕ) (es : List Event) (e : Kind) (t : Tree)
 spend_follow b es Theorem t = spend_append b es t.events t.end
 spend_follow b es (Refuted σ) t = sym (spend_stop b es (Refuted σ) (λ o u. refl) (spend b es (Refuted σ)) (λ l. spend l t.events t.end))
 spend_follow b es Spent t = sym (spend_stop b es Spent (λ o u. refl) (spend b es Spent) (λ l. spend l t.events t.end))
-spend_follow b es Full t = sym (spend_stop b es Full (λ o u. refl) (spend b es Full) (λ l. spend l t.events t.end))
 
 spend_chain : (r : Sequent → Tree) (b : ℕ) (Ps : List Sequent)
     → spend b (chain r Ps).events (chain r Ps).end ≡ pass (λ l P. spend l (r P).events (r P).end) b Ps
@@ -135,7 +134,6 @@ spend_chain r b (P ∷ Ps) =
 outcome_act : (b : ℕ) (S : Sequent) (t : Step) → spend b (grow tree S t).events (grow tree S t).end ≡ act outcome b S (afford b t)
 outcome_act b S (closed w) = refl
 outcome_act b S (opened σ) = refl
-outcome_act b S full = refl
 outcome_act zero S (reduced s i x) = refl
 outcome_act (suc b) S (reduced s i x) = rw (sub-one (suc b)) (spend_chain tree b (premises s i x S))
 
@@ -153,18 +151,23 @@ act_same : (r : ℕ → Sequent → Outcome) (b : ℕ) (S : Sequent) → ((l : �
     → Right_step S t → act r b S (afford b t) ≡ act outcome b S (afford b t)
 act_same r b S h (closed w) p = refl
 act_same r b S h (opened σ) p = refl
-act_same r b S h full p = refl
 act_same r zero S h (reduced s i x) p = refl
 act_same r (suc b) S h (reduced s i x) p =
     pass_same r outcome (suc b - 1) (premises s i x S)
     (each (Smaller S) (λ P. (l : ℕ) → r l P ≡ outcome l P) (λ P k l. h l P k) (premises s i x S) (smaller s i x S p))
 
--- whatever the fuel, if it suffices
-pub run_enough : (n b : ℕ) (S : Sequent) → c S < n → run_by n b S ≡ outcome b S
-run_enough zero b S h = absurd (omega arith)
+-- where no connective is left
+run_bare : (b : ℕ) (S : Sequent) (o : Option Way) → bare b S o ≡ act outcome b S (afford b (tests S o missing missing))
+run_bare b S none = refl
+run_bare b S (some w) = refl
+
+-- whatever number is counted from, if there are no more connectives
+pub run_enough : (n b : ℕ) (S : Sequent) → c S ≤ n → run_by n b S ≡ outcome b S
+run_enough zero b S h =
+    run_bare b S (closing S) ∙ ap (λ (t : Step). act outcome b S (afford b t)) (sym (bare_tests S (closing S) (omega arith))) ∙ sym (outcome_step b S)
 run_enough (suc n) b S h =
     act_same (λ l P. run_by n l P) b S (λ l P k. run_enough n l P (omega arith)) (step S) (right_step S) ∙ sym (outcome_step b S)
 
 -- the run gives what the tree gives, for every budget
 pub run_outcome : (b : ℕ) (S : Sequent) → run b S ≡ outcome b S
-run_outcome b S = run_enough (suc (c S)) b S (omega arith)
+run_outcome b S = run_enough (c S) b S (le_refl _)

@@ -10,7 +10,7 @@ use lib.Dec.{eqb}
 use lib.ListN.{length}
 use Rattle.calculus.specs.declared.Side.TheVariants.{Left, Right}
 use Rattle.calculus.specs.declared.Kind.{Kind}
-use Rattle.calculus.specs.declared.Kind.TheVariants.{Theorem, Refuted, Spent, Full}
+use Rattle.calculus.specs.declared.Kind.TheVariants.{Theorem, Refuted, Spent}
 use Rattle.calculus.specs.declared.ClauseVerdict.{ClauseVerdict}
 use Rattle.calculus.specs.declared.ClauseVerdict.TheVariants.{Theorem as theorem, Refuted as refuted}
 use Rattle.calculus.specs.Fold.{fold, ANY, ALL, Each, choose}
@@ -193,12 +193,10 @@ module _ (S : Sequent) (cs : List Clause) (e : profile S ≡ clauses cs) where
       go (theorem n) t Theorem h = tt
       go (theorem n) t (Refuted ρ) h = true≢false (sym (t ρ) ∙ refuting ρ h)
       go (theorem n) t Spent h = tt
-      go (theorem n) t Full h = tt
       go (refuted σ n) t Theorem h =
           true≢false (sym (theorem_true S (verdict_end b S Theorem h (λ d. cc)) σ) ∙ t.refutes)
       go (refuted σ n) t (Refuted ρ) h = t.below ρ (refuting ρ h)
       go (refuted σ n) t Spent h = tt
-      go (refuted σ n) t Full h = tt
 
   -- "the number of rounds that lit a lamp, which is at most the number of lamps in the question"
   pub rounds_letters : (L : Limits) → WithinUnder L S → (settled cs).rounds ≤ length (letters_under L.letters S)

@@ -14,7 +14,7 @@ use borrow.Author.Tests.{eqb-true, eq-eqb}
 use Rattle.calculus.specs.declared.Side.{Side}
 use Rattle.calculus.specs.declared.Side.TheVariants.{Left, Right}
 use Rattle.calculus.specs.declared.Kind.{Kind}
-use Rattle.calculus.specs.declared.Kind.TheVariants.{Theorem, Refuted, Spent, Full}
+use Rattle.calculus.specs.declared.Kind.TheVariants.{Theorem, Refuted, Spent}
 use Rattle.calculus.specs.declared.Outcome.{Outcome}
 use Rattle.calculus.specs.Fold.{fold, ALL, SUM, Each, choose}
 use Rattle.calculus.specs.Limits.{CUT_SHORT, NO_FORMULA, OTHER_CONNECTIVE, NOT_CLOSED, NOT_EQUAL}
@@ -22,7 +22,7 @@ use Rattle.calculus.specs.Syntax.{AND, OR, IMPLIES, EQUIV, Connective, NOT, two,
 use Rattle.calculus.specs.Bytes.{CONNECTIVE, code, same}
 use Rattle.calculus.specs.Truth.{truth, Valid}
 use Rattle.calculus.specs.Table.{premises}
-use Rattle.calculus.specs.Tree.{letters, among, lettered, paired, Step, closed, opened, full, reduced, Event, close, reduce, Tree, follow, chain, grow, tree, reductions, closings, pairings, outcome}
+use Rattle.calculus.specs.Tree.{letters, among, lettered, paired, Step, closed, opened, reduced, Event, close, reduce, Tree, follow, chain, grow, tree, reductions, closings, pairings, outcome}
 use Rattle.calculus.specs.Width.{W}
 use Rattle.calculus.specs.Derivation.{Order, CLOSE, PAIR, REDUCE, order_code, orders, order, written, written_all, derivation, Derivation, by_letter, by_pair, by_rule, Derivations, none_left, then, Move, fault, waiting, shut, named, equals, pairs, obey, passes, faulty, proceed, check, checking}
 use Rattle.calculus.proofs.Folds.{not_so, found}
@@ -267,7 +267,6 @@ follow_derives : (P : Sequent) (Qs : List Sequent) (es : List Event) (e : Kind) 
 follow_derives P Qs es Theorem u h k q = then (h refl) (k q) (written_all_append es u.events)
 follow_derives P Qs es (Refuted σ) u h k q = absurd cc
 follow_derives P Qs es Spent u h k q = absurd cc
-follow_derives P Qs es Full u h k q = absurd cc
 
 chain_derives : (S : Sequent) → ((P : Sequent) → Smaller S P → Derives P (tree P)) → (Qs : List Sequent) → Each (Smaller S) Qs
     → (chain tree Qs).end ≡ Theorem → Derivations Qs (written_all (chain tree Qs).events)
@@ -278,7 +277,6 @@ grow_derives : (S : Sequent) (t : Step) → Right_step S t → ((P : Sequent) �
 grow_derives S (closed (lettered k)) p h q = by_letter k (record { lefts = p.0; rights = p.1 }) refl
 grow_derives S (closed (paired i j)) p h q = by_pair i j p refl
 grow_derives S (opened σ) p h q = absurd cc
-grow_derives S full p h q = absurd cc
 grow_derives S (reduced s i x) p h q = by_rule s i x p (chain_derives S h (premises s i x S) (smaller s i x S p) q) refl
 
 -- "our derivation of a theorem passes the checker"
@@ -323,7 +321,6 @@ follow_short : (es : List Event) (e : Kind) (u : Tree) → length (written_all (
 follow_short es Theorem u = rw (written_all_append es u.events) (omega (arith, length-append (written_all es) (written_all u.events)))
 follow_short es (Refuted σ) u = omega arith
 follow_short es Spent u = omega arith
-follow_short es Full u = omega arith
 
 chain_short : (S : Sequent) → ((P : Sequent) → Smaller S P → Short P (tree P)) → (Ps : List Sequent) → Each (Smaller S) Ps
     → length (written_all (chain tree Ps).events) ≤ 2 * (c S * fold SUM W Ps)
@@ -337,7 +334,6 @@ grow_short S (closed (paired i j)) p h =
     let n : 1 ≤ c S = omega (arith, one_connective S.on_left i p.x p.lefts) in
     omega (arith, W_pos S, add-mul 1 (c S) (W S), one-le-mul n (W_pos S))
 grow_short S (opened σ) p h = omega arith
-grow_short S full p h = omega arith
 grow_short S (reduced s i x) p h =
     let e = width_premises s i x S p in
     let q = chain_short S h (premises s i x S) (smaller s i x S p) in

@@ -1,13 +1,13 @@
 -- Folds over a commutative monoid, and facts of each element of a list.
 -- Assumes nothing.
-use mathlib.Core.Path.{◌≡◌, refl, sym, ap, ◌∙◌}
+use mathlib.Core.Path.{◌≡◌, refl, sym, ap, ◌∙◌, subst}
 use mathlib.Core.Bool.{Bool, true, false, ◌&&◌, ◌||◌, or-true, true≢false, false≢true}
-use mathlib.Core.Option.{some}
+use mathlib.Core.Option.{some, none-ne-some}
 use mathlib.Core.List.{List, [], ◌∷◌, ◌++◌, map}
 use Prim.Native.Nat.{ℕ, zero, suc, ◌+◌, ◌<◌}
 use native.Mathlib.Nat.{mul-add, mul-zero}
 use native.Mathlib.Omega.{arith}
-use lib.ListN.{length, get_or}
+use lib.ListN.{length, get_or, get_elem?}
 use Rattle.calculus.specs.Fold.{Monoid, fold, ANY, ALL, SUM, PRODUCT, Each, choose, find}
 
 module _ {A : Type 0} (M : Monoid A) where
@@ -102,9 +102,14 @@ each_at Q [] i d h k = absurd (omega arith)
 each_at Q (x ∷ xs) zero d h k = h.0
 each_at Q (x ∷ xs) (suc i) d h k = each_at Q xs i d h.1 (omega arith)
 
-pub any_false : {X : Type 0} (g : X → Bool) (Q : X → Type 0) → ((x : X) → Q x → g x ≡ false) → (xs : List X) → Each Q xs → fold ANY g xs ≡ false
-any_false g Q f [] h = refl
-any_false g Q f (x ∷ xs) h = rw (f x h.0) (any_false g Q f xs h.1)
+pub each_found : {X : Type 0} (Q : X → Type 0) (xs : List X) (i : ℕ) (x : X) → Each Q xs → get_elem? xs i ≡ some x → Q x
+each_found Q [] i x h e = absurd (none-ne-some x e)
+each_found Q (y ∷ xs) zero x h e = let p : y ≡ x = cc in subst Q p h.0
+each_found Q (y ∷ xs) (suc i) x h e = each_found Q xs i x h.1 e
+
+pub each_by : {X : Type 0} (Q : X → Type 0) (xs : List X) → ((i : ℕ) (x : X) → get_elem? xs i ≡ some x → Q x) → Each Q xs
+each_by Q [] f = tt
+each_by Q (x ∷ xs) f = (f 0 x refl, each_by Q xs (λ i. f (suc i)))
 
 pub each_false : {X : Type 0} (Q : X → Type 0) (g : X → Bool) → ((x : X) → g x ≡ false → Q x) → (xs : List X) → fold ANY g xs ≡ false → Each Q xs
 each_false Q g f [] e = tt

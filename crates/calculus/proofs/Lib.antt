@@ -9,6 +9,7 @@ pub mod Budgets
 pub mod Derivations
 pub mod Spelling
 pub mod Readings
+pub mod Room
 pub mod Lists
 pub mod Buffers
 pub mod Standard

@@ -16,11 +16,10 @@ use Rattle.calculus.specs.declared.Side.TheVariants.{Left, Right}
 use Rattle.calculus.specs.declared.Expected.{Expected}
 use Rattle.calculus.specs.declared.Expected.TheVariants.{Head, Count, Formula as Due, Operand, End}
 use Rattle.calculus.specs.Fold.{fold, SUM, Each, choose}
-use Rattle.calculus.specs.Limits.{Limits, LIMITS, ROOM, TOO_LONG, CUT, WRONG_COMMAND, MANY_FORMULAS, NO_SUCH_LETTER, MANY_CONNECTIVES}
-use Rattle.calculus.specs.Syntax.{Binary, NOT, two, Formula, letter, neg, join, Sequent, connectives, c, size}
+use Rattle.calculus.specs.Limits.{Limits, LIMITS, TOO_LONG, CUT, WRONG_COMMAND, MANY_FORMULAS, NO_SUCH_LETTER, MANY_CONNECTIVES}
+use Rattle.calculus.specs.Syntax.{Binary, NOT, two, Formula, letter, neg, join, Sequent, connectives}
 use Rattle.calculus.specs.Bytes.{Command, SIDE, LETTER, CONNECTIVE, code, command, encode, encode_all, encode_side, encode_sequent, bytes, bytes_all, question, LetteredUnder, WithinUnder, Within}
 use Rattle.calculus.specs.Reading.{Onward, refuse, onward, after, begin_under, advance, advance_under, accepted, refused, ended, go_on, read, read_under, reading, reading_under}
-use Rattle.calculus.proofs.Folds.{ones}
 use Rattle.calculus.proofs.Spelling.{command_code, command_byte, question_encode, longest}
 
 -- ---- what is within the limits is accepted
@@ -304,8 +303,3 @@ refused_place (b ∷ bs) e d at n p h = go (advance e d b) refl (λ e' d' h'. re
 
         later : Earliest bs e' d' (suc at) n p → Refusal (b ∷ bs) e d at n p
         later r = inr (record { from = omega (arith, r.from); before = omega (arith, r.before); whatever = λ more. rw a (r.whatever more) })
-
--- ---- a question within the limits leaves a running sequent room
-
-pub within_room : (S : Sequent) → Within S → size S + c S ≤ ROOM
-within_room S w = omega (arith, w.lefts, w.rights, w.connectives, ones S.on_left, ones S.on_right)

@@ -22,6 +22,27 @@ at f (R x) = f Right x
 abbrev pub apart : Connective → Formula → Formula → Compound
 apart k x y = record { connective = k; f = x; g = y }
 
+-- ---- each premise has a connective less, and no more formulas and connectives together
+
+-- a formula, counted with its connectives
+abbrev pub weight : Side → Formula → ℕ
+weight s x = 1 + connectives x
+
+abbrev pub parts : Side → Formula → List (Put Formula) → Type 0
+parts s x ps = (1 + fold SUM (at (λ t. connectives)) ps ≤ connectives x) × (fold SUM (at weight) ps ≤ weight s x)
+
+pub parts_rule : (s : Side) (k : Connective) (x y : Formula) → Each (parts s (compound k x y)) (reduct s (apart k x y))
+parts_rule Left NOT x y = omega arith
+parts_rule Right NOT x y = omega arith
+parts_rule Left (two AND) x y = omega arith
+parts_rule Right (two AND) x y = omega arith
+parts_rule Left (two OR) x y = omega arith
+parts_rule Right (two OR) x y = omega arith
+parts_rule Left (two IMPLIES) x y = omega arith
+parts_rule Right (two IMPLIES) x y = omega arith
+parts_rule Left (two EQUIV) x y = omega arith
+parts_rule Right (two EQUIV) x y = omega arith
+
 -- ---- a formula is as true as its premises are together
 
 abbrev weigh : Bool → Bool → Put Part → Bool
@@ -72,24 +93,3 @@ width_rule Left (two IMPLIES) x y = simp (mul-one, add-zero) (add_comm _ _)
 width_rule Right (two IMPLIES) x y = simp (mul-one, add-zero)
 width_rule Left (two EQUIV) x y = simp (mul-one, add-zero)
 width_rule Right (two EQUIV) x y = simp (mul-one, add-zero)
-
--- ---- each premise has a connective less, and no more formulas and connectives together
-
--- a formula, counted with its connectives
-abbrev pub weight : Side → Formula → ℕ
-weight s x = 1 + connectives x
-
-abbrev pub parts : Side → Formula → List (Put Formula) → Type 0
-parts s x ps = (1 + fold SUM (at (λ t. connectives)) ps ≤ connectives x) × (fold SUM (at weight) ps ≤ weight s x)
-
-pub parts_rule : (s : Side) (k : Connective) (x y : Formula) → Each (parts s (compound k x y)) (reduct s (apart k x y))
-parts_rule Left NOT x y = omega arith
-parts_rule Right NOT x y = omega arith
-parts_rule Left (two AND) x y = omega arith
-parts_rule Right (two AND) x y = omega arith
-parts_rule Left (two OR) x y = omega arith
-parts_rule Right (two OR) x y = omega arith
-parts_rule Left (two IMPLIES) x y = omega arith
-parts_rule Right (two IMPLIES) x y = omega arith
-parts_rule Left (two EQUIV) x y = omega arith
-parts_rule Right (two EQUIV) x y = omega arith

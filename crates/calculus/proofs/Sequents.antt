@@ -10,9 +10,9 @@ use lib.ListN.{get_elem?}
 use Rattle.calculus.specs.declared.Side.{Side}
 use Rattle.calculus.specs.declared.Side.TheVariants.{Left, Right}
 use Rattle.calculus.specs.Fold.{Monoid, fold, ALL, ANY, SUM, PRODUCT, Each}
-use Rattle.calculus.specs.Syntax.{Formula, Compound, whole, Seq, Sequent, on_side, over, connectives, c, size}
+use Rattle.calculus.specs.Syntax.{Formula, Compound, whole, Seq, Sequent, over, connectives, c, size}
 use Rattle.calculus.specs.Truth.{says, truth}
-use Rattle.calculus.specs.Table.{Put, L, R, on, splice, premise, reduct, premises}
+use Rattle.calculus.specs.Table.{Put, L, R, on, splice, premise, reduct, Due, premises}
 use Rattle.calculus.specs.Width.{width, W}
 use Rattle.calculus.proofs.Folds.{left_comm, unit_right, fold_append, fold_map, Distributes, times_fold, ALL_ANY, SUM_PRODUCT, fold_add, each_map}
 use Rattle.calculus.proofs.Rules.{at, truth_rule, width_rule, weight, parts, parts_rule}
@@ -49,10 +49,7 @@ over_premises {A} P M D f s i x S stands rule =
     ∙ ap (λ (g : List (Put Formula) → A). fold P g (reduct s x)) (fun_ext (λ ps. sym (over_premise M f s i S ps)))
     ∙ sym (fold_map P (over M f) (premise s i S) (reduct s x))
 
--- ---- x stands on side s at place i: to put it there changes nothing
-
-abbrev pub Due : Sequent → Side → ℕ → Compound → Type 0
-Due S s i x = get_elem? (on_side s S) i ≡ some (whole x)
+-- ---- where x stands on side s at place i, to put it there changes nothing
 
 splice_here : {X : Type 0} (xs : List X) (i : ℕ) (w : X) → get_elem? xs i ≡ some w → splice i (w ∷ []) xs ≡ xs
 splice_here [] i w e = absurd (none-ne-some w e)
@@ -74,11 +71,12 @@ width_premises s i x S h = over_premises SUM PRODUCT SUM_PRODUCT width s i x S (
 -- ---- each premise is smaller
 
 -- formulas and connectives together
-pub weight_size : (S : Sequent) → over SUM weight S ≡ size S + c S
+weight_size : (S : Sequent) → over SUM weight S ≡ size S + c S
 weight_size S = omega (arith, fold_add (λ x. 1) connectives S.on_left, fold_add (λ x. 1) connectives S.on_right)
 
+-- a connective less, and no more formulas and connectives together
 abbrev pub Smaller : Sequent → Sequent → Type 0
-Smaller S P = (1 + c P ≤ c S) × (over SUM weight P ≤ over SUM weight S)
+Smaller S P = (1 + c P ≤ c S) × (size P + c P ≤ size S + c S)
 
 pub smaller : (s : Side) (i : ℕ) (x : Compound) (S : Sequent) → Due S s i x → Each (Smaller S) (premises s i x S)
 smaller s i x S h = each_map (parts s (whole x)) (Smaller S) (premise s i S) one (reduct s x) (parts_rule s x.connective x.f x.g)
@@ -88,4 +86,4 @@ smaller s i x S h = each_map (parts s (whole x)) (Smaller S) (premise s i S) one
 
     one : (ps : List (Put Formula)) → parts s (whole x) ps → Smaller S (premise s i S ps)
     one ps k =
-        omega (arith, over_premise SUM (λ t. connectives) s i S ps, all (λ t. connectives), over_premise SUM weight s i S ps, all weight)
+        omega (arith, over_premise SUM (λ t. connectives) s i S ps, all (λ t. connectives), over_premise SUM weight s i S ps, all weight, weight_size S, weight_size (premise s i S ps))

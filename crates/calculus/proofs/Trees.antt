@@ -8,25 +8,22 @@ use Prim.Native.Nat.{ℕ, zero, suc, ◌+◌, ◌*◌, ◌/◌, ◌%◌, ◌^◌
 use native.Mathlib.Decide.{dec_le}
 use native.Mathlib.Nat.{zero-max, pow-suc, min-eq_left, min-eq_right, le_refl}
 use native.Mathlib.Omega.{arith}
-use borrow.Author.Tests.{eqb-true, eq-eqb, le-ltb}
+use borrow.Author.Tests.{eqb-true, eq-eqb}
 use lib.Bits.{bit_or, or_step, or_zero_l}
 use lib.Pow.{pow_pos}
-use lib.Dec.{eqb, ltb, eqb-zero-suc, eqb-suc-zero, eqb-suc-suc}
+use lib.Dec.{eqb, eqb-zero-suc, eqb-suc-zero, eqb-suc-suc}
 use lib.ListN.{get_elem?}
-use Rattle.calculus.specs.declared.Side.{Side}
 use Rattle.calculus.specs.declared.Side.TheVariants.{Left, Right}
 use Rattle.calculus.specs.Fold.{fold, ANY, SUM, Each, choose}
-use Rattle.calculus.specs.Limits.{ROOM}
-use Rattle.calculus.specs.Syntax.{Connective, NOT, two, Formula, letter, neg, join, Compound, compound, whole, Sequent, over, c, size}
+use Rattle.calculus.specs.Syntax.{Connective, NOT, two, Formula, letter, neg, join, Compound, compound, whole, Sequent, connectives, c}
 use Rattle.calculus.specs.Truth.{bit, value, says, truth}
 use Rattle.calculus.specs.Bytes.{same}
-use Rattle.calculus.specs.Table.{premises}
-use Rattle.calculus.specs.Tree.{letters, among, lower, common, next, equal_to, partner, Twins, unlike, alike, nearest, twins, Way, lettered, paired, either, closing, closing_by_letter, light, state, First, missing, here, later, first, Step, closed, opened, full, reduced, due, tests, step_by, step, reduce, Tree, chain, under, grow, grow_by, tree_by, tree}
+use Rattle.calculus.specs.Table.{Due, premises}
+use Rattle.calculus.specs.Tree.{letters, among, lower, common, next, equal_to, partner, Twins, unlike, alike, nearest, twins, Way, lettered, paired, either, closing, closing_by_letter, light, state, First, missing, here, later, first, Step, closed, opened, reduced, tests, step_by, step, reduce, Tree, chain, under, grow, leaf, grow_by, tree_by, tree}
 use Rattle.calculus.specs.Derivation.{Pairs}
-use Rattle.calculus.proofs.Folds.{or_elim, not_so, each, any_false}
-use Rattle.calculus.proofs.Rules.{weight}
+use Rattle.calculus.proofs.Folds.{or_elim, not_so, each}
 use Rattle.calculus.proofs.Spelling.{same_eq, same_self}
-use Rattle.calculus.proofs.Sequents.{Due, Smaller, smaller, weight_size}
+use Rattle.calculus.proofs.Sequents.{Smaller, smaller}
 
 -- ---- states
 
@@ -295,20 +292,7 @@ open_false S h a b =
 abbrev pub Right_step : Sequent → Step → Type 0
 Right_step S (closed w) = Closed S w
 Right_step S (opened σ) = truth σ S ≡ false
-Right_step S full = ROOM < over SUM weight S
 Right_step S (reduced s i x) = Due S s i x
-
-right_due : (S : Sequent) (s : Side) (i : ℕ) (x : Compound) → Due S s i x → Right_step S (due S s i x)
-right_due S s i x h = go (fold ANY (λ P. ltb ROOM (size P)) (premises s i x S)) refl
-  where
-    small : over SUM weight S ≤ ROOM → fold ANY (λ P. ltb ROOM (size P)) (premises s i x S) ≡ false
-    small l =
-        any_false (λ P. ltb ROOM (size P)) (Smaller S) (λ P k. le-ltb ROOM (size P) (omega (arith, weight_size P)))
-        (premises s i x S) (smaller s i x S h)
-
-    go : (b : Bool) → fold ANY (λ P. ltb ROOM (size P)) (premises s i x S) ≡ b → Right_step S (choose b full (reduced s i x))
-    go true e = elim (dec_le (over SUM weight S) ROOM) [ yes l ↦ absurd (false≢true (sym (small l) ∙ e)) | no l ↦ omega arith ]
-    go false e = h
 
 -- a closing test is sound: where it says no, no letter stands on both sides
 abbrev pub Tested : Sequent → Option Way → Type 0
@@ -336,8 +320,8 @@ letter_sound S = go (common (letters S.on_left) (letters S.on_right)) (shared (l
 right_tests : (S : Sequent) (o : Option Way) (a b : First) → Tested S o → Stands S.on_left a
     → Stands S.on_right b → Right_step S (tests S o a b)
 right_tests S (some w) a b h p q = h
-right_tests S none (here i x) b h p q = right_due S Left i x p
-right_tests S none missing (here i x) h p q = right_due S Right i x q
+right_tests S none (here i x) b h p q = p
+right_tests S none missing (here i x) h p q = q
 right_tests S none missing missing h p q = open_false S h p q
 
 pub right_step_by : (t : Sequent → Option Way) → Sound t → (S : Sequent) → Right_step S (step_by t S)
@@ -346,7 +330,7 @@ right_step_by t f S = right_tests S (t S) (first S.on_left) (first S.on_right) (
 pub right_step : (S : Sequent) → Right_step S (step S)
 right_step = right_step_by closing closing_sound
 
--- ---- the fuel does not run out: the tree, with no word of it, and induction over it
+-- ---- the tree, with no word of the connectives counted, and induction over it
 
 chain_same : (r q : Sequent → Tree) (Ps : List Sequent) → Each (λ P. r P ≡ q P) Ps → chain r Ps ≡ chain q Ps
 chain_same r q [] h = refl
@@ -355,21 +339,39 @@ chain_same r q (P ∷ Ps) h = rw (h.0, chain_same r q Ps h.1)
 grow_same : (r q : Sequent → Tree) (S : Sequent) → ((P : Sequent) → Smaller S P → r P ≡ q P) → (t : Step) → Right_step S t → grow r S t ≡ grow q S t
 grow_same r q S h (closed w) p = refl
 grow_same r q S h (opened σ) p = refl
-grow_same r q S h full p = refl
 grow_same r q S h (reduced s i x) p =
     ap (under (reduce s i x.connective)) (chain_same r q (premises s i x S)
     (each (Smaller S) (λ P. r P ≡ q P) h (premises s i x S) (smaller s i x S p)))
 
-grow_enough : (t : Sequent → Option Way) → Sound t → (n m : ℕ) (S : Sequent) → c S < n → c S < m → grow_by t n S ≡ grow_by t m S
-grow_enough t f zero m S h k = absurd (omega arith)
-grow_enough t f (suc n) zero S h k = absurd (omega arith)
+-- where no connective is left, the tests find no compound
+pub no_compound : (xs : List Formula) → fold SUM connectives xs ≡ 0 → first xs ≡ missing
+no_compound [] e = refl
+no_compound (letter k ∷ xs) e = ap later (no_compound xs (omega arith))
+no_compound (neg x ∷ xs) e = absurd (omega arith)
+no_compound (join b x y ∷ xs) e = absurd (omega arith)
+
+pub bare_tests : (S : Sequent) (o : Option Way) → c S ≡ 0 → tests S o (first S.on_left) (first S.on_right) ≡ tests S o missing missing
+bare_tests S o e = rw (no_compound S.on_left (omega arith), no_compound S.on_right (omega arith))
+
+leaf_grows : (t : Sequent → Option Way) (r : Sequent → Tree) (S : Sequent) → c S ≡ 0 → leaf S (t S) ≡ grow r S (step_by t S)
+leaf_grows t r S e = go (t S) ∙ ap (grow r S) (sym (bare_tests S (t S) e))
+  where
+    go : (o : Option Way) → leaf S o ≡ grow r S (tests S o missing missing)
+    go none = refl
+    go (some w) = refl
+
+-- to count more than there are changes nothing
+grow_enough : (t : Sequent → Option Way) → Sound t → (n m : ℕ) (S : Sequent) → c S ≤ n → c S ≤ m → grow_by t n S ≡ grow_by t m S
+grow_enough t f zero zero S h k = refl
+grow_enough t f zero (suc m) S h k = leaf_grows t (λ P. grow_by t m P) S (omega arith)
+grow_enough t f (suc n) zero S h k = sym (leaf_grows t (λ P. grow_by t n P) S (omega arith))
 grow_enough t f (suc n) (suc m) S h k =
     grow_same (λ P. grow_by t n P) (λ P. grow_by t m P) S (λ P l. grow_enough t f n m P (omega arith) (omega arith)) (step_by t S) (right_step_by t f S)
 
 pub tree_by_grows : (t : Sequent → Option Way) → Sound t → (S : Sequent) → tree_by t S ≡ grow (tree_by t) S (step_by t S)
 tree_by_grows t f S =
-    grow_same (λ P. grow_by t (c S) P) (tree_by t) S (λ P l. grow_enough t f (c S) (suc (c P)) P (omega arith) (omega arith)) (step_by t S)
-    (right_step_by t f S)
+    grow_enough t f (c S) (suc (c S)) S (le_refl _) (omega arith)
+    ∙ grow_same (λ P. grow_by t (c S) P) (tree_by t) S (λ P l. grow_enough t f (c S) (c P) P (omega arith) (le_refl _)) (step_by t S) (right_step_by t f S)
 
 pub tree_grows : (S : Sequent) → tree S ≡ grow tree S (step S)
 tree_grows = tree_by_grows closing closing_sound

@@ -5,7 +5,7 @@ use Rattle.std.specs.Prelude.{◌≡◌, ◌≢◌, Bool, true, false, not, ◌&
 use Rattle.std.proofs.Math.Option.{Option, none, some}
 use Rattle.calculus.specs.declared.Side.TheVariants.{Left, Right}
 use Rattle.calculus.specs.declared.Kind.{Kind}
-use Rattle.calculus.specs.declared.Kind.TheVariants.{Theorem, Refuted, Spent, Full}
+use Rattle.calculus.specs.declared.Kind.TheVariants.{Theorem, Refuted, Spent}
 use Rattle.calculus.specs.declared.Settled.{Settled}
 use Rattle.calculus.specs.declared.ClauseVerdict.{ClauseVerdict}
 use Rattle.calculus.specs.declared.ClauseVerdict.TheVariants.{Theorem as theorem, Refuted as refuted}
@@ -164,16 +164,14 @@ abbrev pub Correct : Sequent → ClauseVerdict → Type 0
 Correct S (theorem n) = Valid S
 Correct S (refuted σ n) = Least σ S
 
--- "the verdict agrees with the prover's unless its run ends SPENT or FULL"; the state that the prover finds is above
+-- "the verdict agrees with the prover's unless its run ends SPENT"; the state that the prover finds is above
 abbrev pub Agrees : ClauseVerdict → Kind → Type 0
 Agrees (theorem n) Theorem = Unit {0}
 Agrees (theorem n) (Refuted ρ) = ⊥
 Agrees (theorem n) Spent = Unit {0}
-Agrees (theorem n) Full = Unit {0}
 Agrees (refuted σ n) Theorem = ⊥
 Agrees (refuted σ n) (Refuted ρ) = Below σ ρ
 Agrees (refuted σ n) Spent = Unit {0}
-Agrees (refuted σ n) Full = Unit {0}
 
 -- the state after n rounds
 abbrev pub after : ℕ → List Clause → ℕ → ℕ

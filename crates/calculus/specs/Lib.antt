@@ -1,4 +1,4 @@
--- The definitions, in document 01's order; `States`, `Standard` and `Clauses` are of document 02.
+-- The definitions, in document 01's order; `Reached`, `States`, `Standard` and `Clauses` are of document 02.
 pub mod Limits
 pub mod Fold
 pub mod Syntax
@@ -6,6 +6,7 @@ pub mod Bytes
 pub mod Reading
 pub mod Truth
 pub mod Table
+pub mod Reached
 pub mod Tree
 pub mod Width
 pub mod Derivation

@@ -1,5 +1,5 @@
 -- The limits of document 01 and the numbers of its last table, with those of document 02's requests, each under one name.
-use Rattle.std.specs.Prelude.{ℕ, ◌≤◌}
+use Rattle.std.specs.Prelude.{ℕ, ◌+◌, ◌*◌, ◌≤◌}
 
 -- the bytes of a question
 abbrev pub LONGEST : ℕ
@@ -21,10 +21,6 @@ LETTERS = 64
 abbrev pub VARIED : ℕ
 VARIED = 16
 
--- the formulas of a running sequent
-abbrev pub ROOM : ℕ
-ROOM = 80
-
 -- ---- any limits
 
 -- what a question has at most
@@ -37,6 +33,13 @@ pub record Limits : Type 0 where
 -- document 01's, as the requests have them
 abbrev pub LIMITS : Limits
 LIMITS = record { longest = LONGEST; formulas = FORMULAS; connectives = CONNECTIVES; letters = LETTERS }
+
+-- the formulas of a running sequent: as many as both sides have, and one for each connective
+abbrev pub room : Limits → ℕ
+room L = 2 * L.formulas + L.connectives
+
+abbrev pub ROOM : ℕ
+ROOM = room LIMITS
 
 -- the letters before document 02's request d, and the limits with them
 abbrev pub LETTERS_BEFORE : ℕ
@@ -75,10 +78,7 @@ MANY_CONNECTIVES = 6
 abbrev pub LEFT_OVER : ℕ
 LEFT_OVER = 7
 
--- ---- refusals of a derivation
-
-abbrev pub FULL : ℕ
-FULL = 8
+-- ---- refusals of a derivation; 8 was among them, and is not used again
 
 abbrev pub SPENT : ℕ
 SPENT = 9

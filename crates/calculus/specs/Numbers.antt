@@ -1,11 +1,10 @@
 -- "Numbers and places returned", row by row: what the definitions reply to a smallest example, and what document 01 prints.
 -- The numbers of document 02's requests join them.
 use Rattle.std.specs.Prelude.{List, [], ◌∷◌, ◌++◌, map, ℕ, ◌+◌, ◌*◌, replicate}
-use Rattle.calculus.specs.declared.Kind.TheVariants.{Full}
 use Rattle.calculus.specs.Syntax.{AND, letter, join, Sequent}
 use Rattle.calculus.specs.Bytes.{encode_sequent}
 use Rattle.calculus.specs.States.{from}
-use Rattle.calculus.specs.Reply.{Reply, verdict_reply, decide_reply, derive, check_reply, list_states, spell, clauses_reply}
+use Rattle.calculus.specs.Reply.{Reply, decide_reply, derive, check_reply, list_states, spell, clauses_reply}
 use Rattle.calculus.specs.Starred.{large, failing, left_only, repeated}
 
 pub record Row : Type 0 where
@@ -75,8 +74,6 @@ numbers =
     ∷ row (read (0x10 ∷ 0x01 ∷ replicate 49 0x02)) 6 (50 ∷ [])
     -- first such byte: 7 LEFT OVER, bytes follow the last formula
     ∷ row (read (empty ++ (0x00 ∷ []))) 7 (4 ∷ [])
-    -- both counts: 8 FULL. No question gives it (`Bounds.never_full`), so this is the reply to a verdict.
-    ∷ row (verdict_reply Full 3 2) 8 (3 ∷ 2 ∷ [])
     -- both counts: 9 SPENT, the reductions made equal the budget (case 10)
     ∷ row (decide_reply failing 7) 9 (7 ∷ 1 ∷ [])
     -- state, both counts: 10 NOT PROVED, a derivation is asked of a refuted question (case 9)

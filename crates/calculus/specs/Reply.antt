@@ -4,13 +4,13 @@ use Rattle.std.proofs.Math.Option.{Option, none, some}
 use Rattle.std.proofs.Math.ListN.{get_elem?}
 use Rattle.calculus.specs.declared.Side.{Side}
 use Rattle.calculus.specs.declared.Kind.{Kind}
-use Rattle.calculus.specs.declared.Kind.TheVariants.{Theorem, Refuted, Spent, Full}
+use Rattle.calculus.specs.declared.Kind.TheVariants.{Theorem, Refuted, Spent}
 use Rattle.calculus.specs.declared.Part.{Part}
 use Rattle.calculus.specs.declared.Verdict.{Verdict}
 use Rattle.calculus.specs.declared.ClauseVerdict.{ClauseVerdict}
 use Rattle.calculus.specs.declared.ClauseVerdict.TheVariants.{Theorem as theorem, Refuted as refuted}
 use Rattle.calculus.specs.Fold.{Each, choose}
-use Rattle.calculus.specs.Limits.{Limits, LIMITS, VARIED, FULL, SPENT, NOT_PROVED, NO_SPACE, MANY_LETTERS}
+use Rattle.calculus.specs.Limits.{Limits, LIMITS, VARIED, SPENT, NOT_PROVED, NO_SPACE, MANY_LETTERS}
 use Rattle.calculus.specs.Syntax.{Formula, Sequent, on_side, c}
 use Rattle.calculus.specs.Bytes.{encode, bytes, question, start_of}
 use Rattle.calculus.specs.Reading.{Reading, accepted, refused, reading_under}
@@ -37,7 +37,6 @@ abbrev pub verdict_reply : Kind → ℕ → ℕ → Reply
 verdict_reply Theorem r k = record { number = 0; values = r ∷ k ∷ [] }
 verdict_reply (Refuted σ) r k = record { number = 0; values = σ ∷ r ∷ k ∷ [] }
 verdict_reply Spent r k = record { number = SPENT; values = r ∷ k ∷ [] }
-verdict_reply Full r k = record { number = FULL; values = r ∷ k ∷ [] }
 
 abbrev pub decide_under : Limits → List ℕ → ℕ → Reply
 decide_under L q b =
@@ -102,13 +101,12 @@ abbrev pub if_read_out : Reading → List ℕ → Written → Written
 if_read_out accepted old w = w
 if_read_out (refused n at) old w = unwritten n (at ∷ []) old
 
--- ---- writing a derivation: "8, 9, 10, 11 in that order"
+-- ---- writing a derivation: "the writer's order is now 9, 10, 11"
 
 abbrev pub write_out : Kind → ℕ → ℕ → List ℕ → List ℕ → Written
 write_out Theorem r k ds old = fill_out ds (r ∷ k ∷ []) old
 write_out (Refuted σ) r k ds old = unwritten NOT_PROVED (σ ∷ r ∷ k ∷ []) old
 write_out Spent r k ds old = record { reply = verdict_reply Spent r k; buffer = old }
-write_out Full r k ds old = record { reply = verdict_reply Full r k; buffer = old }
 
 abbrev pub derive_under : Limits → List ℕ → ℕ → List ℕ → Written
 derive_under L q b old =

@@ -1,8 +1,10 @@
 -- "The ten reductions as a table".
-use Rattle.std.specs.Prelude.{List, [], ◌∷◌, ◌++◌, map, ℕ, suc, take, drop}
+use Rattle.std.specs.Prelude.{◌≡◌, List, [], ◌∷◌, ◌++◌, map, ℕ, suc, take, drop}
+use Rattle.std.proofs.Math.Option.{some}
+use Rattle.std.proofs.Math.ListN.{get_elem?}
 use Rattle.calculus.specs.declared.Side.{Side}
 use Rattle.calculus.specs.declared.Side.TheVariants.{Left, Right}
-use Rattle.calculus.specs.Syntax.{AND, OR, IMPLIES, EQUIV, Connective, NOT, two, Compound, Formula, Seq, Sequent}
+use Rattle.calculus.specs.Syntax.{AND, OR, IMPLIES, EQUIV, Connective, NOT, two, Compound, whole, Formula, Seq, Sequent, on_side}
 
 pub data Part : Type 0 where
   F G : Part
@@ -50,6 +52,10 @@ premise Right i S ps = record { on_left = S.on_left ++ on Left ps; on_right = sp
 -- what a compound on a side is replaced by, for each premise
 abbrev pub reduct : Side → Compound → List (List (Put Formula))
 reduct s x = map (map (fill x.f x.g)) (table x.connective s)
+
+-- x stands on side s at place i
+abbrev pub Due : Sequent → Side → ℕ → Compound → Type 0
+Due S s i x = get_elem? (on_side s S) i ≡ some (whole x)
 
 -- a reduction turns one running sequent into the next, or into two
 abbrev pub premises : Side → ℕ → Compound → Sequent → List Sequent

@@ -1,15 +1,14 @@
 -- The tests at a running sequent, the tree of a question, and what a budget makes of it.
-use Rattle.std.specs.Prelude.{Bool, true, false, List, [], ◌∷◌, ◌++◌, ℕ, zero, suc, ◌+◌, ◌-◌, ◌*◌, ◌/◌, ◌%◌, min, eqb, ltb}
+use Rattle.std.specs.Prelude.{Bool, true, false, List, [], ◌∷◌, ◌++◌, ℕ, zero, suc, ◌+◌, ◌-◌, ◌*◌, ◌/◌, ◌%◌, min, eqb}
 use Rattle.std.proofs.Math.Option.{Option, none, some}
 use Rattle.calculus.specs.declared.Side.{Side}
 use Rattle.calculus.specs.declared.Side.TheVariants.{Left, Right}
 use Rattle.calculus.specs.declared.Kind.{Kind}
-use Rattle.calculus.specs.declared.Kind.TheVariants.{Theorem, Refuted, Spent, Full}
+use Rattle.calculus.specs.declared.Kind.TheVariants.{Theorem, Refuted, Spent}
 use Rattle.calculus.specs.declared.Outcome.{Outcome}
 use Rattle.calculus.specs.declared.Verdict.{Verdict}
 use Rattle.calculus.specs.Fold.{fold, ANY, SUM, choose}
-use Rattle.calculus.specs.Limits.{ROOM}
-use Rattle.calculus.specs.Syntax.{Connective, NOT, two, Compound, Formula, letter, neg, join, Sequent, c, size}
+use Rattle.calculus.specs.Syntax.{Connective, NOT, two, Compound, Formula, letter, neg, join, Sequent, c}
 use Rattle.calculus.specs.Bytes.{same}
 use Rattle.calculus.specs.Table.{premises}
 
@@ -114,19 +113,14 @@ first (join b x y ∷ xs) = here 0 (record { connective = two b; f = x; g = y })
 pub data Step : Type 0 where
   closed : Way → Step
   opened : ℕ → Step
-  full : Step
   reduced : Side → ℕ → Compound → Step
-
--- "if a premise of the due reduction would hold more than 80 formulas, the run is FULL"
-abbrev pub due : Sequent → Side → ℕ → Compound → Step
-due S s i x = choose (fold ANY (λ P. ltb ROOM (size P)) (premises s i x S)) full (reduced s i x)
 
 -- "in this order": closed; open if no connective is left; else the first formula with a connective, the left side before the right.
 -- "Bit k is set exactly if letter k stands on the left of the open sequent."
 abbrev pub tests : Sequent → Option Way → First → First → Step
 tests S (some w) a b = closed w
-tests S none (here i x) b = due S Left i x
-tests S none missing (here i x) = due S Right i x
+tests S none (here i x) b = reduced Left i x
+tests S none missing (here i x) = reduced Right i x
 tests S none missing missing = opened (state (letters S.on_left))
 
 -- by a closing test: the tests, and further down the tree
@@ -147,12 +141,11 @@ pub record Tree : Type 0 where
   pub events : List Event
   pub end : Kind
 
--- "an open one, or one that gives FULL, has nothing under it and nothing after it"
+-- "an open one .. has nothing under it and nothing after it"
 abbrev pub follow : List Event → Kind → Tree → Tree
 follow es Theorem u = record { events = es ++ u.events; end = u.end }
 follow es (Refuted σ) u = record { events = es; end = Refuted σ }
 follow es Spent u = record { events = es; end = Spent }
-follow es Full u = record { events = es; end = Full }
 
 -- "its first premise with all below that, then its second, if any, likewise"
 abbrev pub chain : (Sequent → Tree) → List Sequent → Tree
@@ -169,16 +162,21 @@ under e t = record { events = e ∷ t.events; end = t.end }
 abbrev pub grow : (Sequent → Tree) → Sequent → Step → Tree
 grow r S (closed w) = record { events = close w ∷ []; end = Theorem }
 grow r S (opened σ) = record { events = []; end = Refuted σ }
-grow r S full = record { events = []; end = Full }
 grow r S (reduced s i x) = under (reduce s i x.connective) (chain r (premises s i x S))
 
+-- where no connective is left: closed, or open
+abbrev pub leaf : Sequent → Option Way → Tree
+leaf S (some w) = record { events = close w ∷ []; end = Theorem }
+leaf S none = record { events = []; end = Refuted (state (letters S.on_left)) }
+
+-- by the number of connectives, of which each reduction takes one away
 abbrev pub grow_by : (Sequent → Option Way) → ℕ → Sequent → Tree
-grow_by t zero S = record { events = []; end = Full }
+grow_by t zero S = leaf S (t S)
 grow_by t (suc n) S = grow (λ P. grow_by t n P) S (step_by t S)
 
--- "the question is its root". Each reduction takes a connective away, so the fuel does not run out.
+-- "the question is its root"
 abbrev pub tree_by : (Sequent → Option Way) → Sequent → Tree
-tree_by t S = grow_by t (suc (c S)) S
+tree_by t S = grow_by t (c S) S
 
 abbrev pub tree : Sequent → Tree
 tree = tree_by closing
@@ -247,13 +245,12 @@ verdict b S = verdict_of b (outcome b S)
 pub data Inner : Type 0 where
   is_closed : Way → Inner
   is_open : ℕ → Inner
-  is_full is_spent : Inner
+  is_spent : Inner
   is_due : Side → ℕ → Compound → Inner
 
 abbrev pub afford : ℕ → Step → Inner
 afford b (closed w) = is_closed w
 afford b (opened σ) = is_open σ
-afford b full = is_full
 afford zero (reduced s i x) = is_spent
 afford (suc b) (reduced s i x) = is_due s i x
 
@@ -267,7 +264,6 @@ and_then Theorem o u =
     record { kind = v.kind; unspent = v.unspent; closings = o.closings + v.closings; pairings = o.pairings + v.pairings }
 and_then (Refuted σ) o u = o
 and_then Spent o u = o
-and_then Full o u = o
 
 abbrev pub pass : (ℕ → Sequent → Outcome) → ℕ → List Sequent → Outcome
 pass r b [] = ends Theorem b
@@ -276,13 +272,18 @@ pass r b (P ∷ Ps) = and_then (r b P).kind (r b P) (λ l. pass r l Ps)
 abbrev pub act : (ℕ → Sequent → Outcome) → ℕ → Sequent → Inner → Outcome
 act r b S (is_closed w) = one_more w (ends Theorem b)
 act r b S (is_open σ) = ends (Refuted σ) b
-act r b S is_full = ends Full b
 act r b S is_spent = ends Spent b
 act r b S (is_due s i x) = pass r (b - 1) (premises s i x S)
 
+-- where no connective is left there is nothing to spend
+abbrev pub bare : ℕ → Sequent → Option Way → Outcome
+bare b S (some w) = one_more w (ends Theorem b)
+bare b S none = ends (Refuted (state (letters S.on_left))) b
+
+-- by the number of connectives
 abbrev pub run_by : ℕ → ℕ → Sequent → Outcome
-run_by zero b S = ends Full b
+run_by zero b S = bare b S (closing S)
 run_by (suc n) b S = act (λ l P. run_by n l P) b S (inner b S)
 
 abbrev pub run : ℕ → Sequent → Outcome
-run b S = run_by (suc (c S)) b S
+run b S = run_by (c S) b S

@@ -60,7 +60,6 @@ pub enum Kind {
     Theorem,
     Refuted(u64),
     Spent,
-    Full,
 }
 
 // What a run under a budget comes to: its kind, the reductions left, the sequents closed, and how many of these by equal
