@@ -1,7 +1,7 @@
 -- The room: whatever reductions make of a question, in any order, holds at most as many formulas as both sides may have and one for
 -- each connective.
 -- Assumes nothing.
-use mathlib.Core.Path.{◌≡◌}
+use mathlib.Core.Path.{◌≡◌, sym, subst}
 use mathlib.Core.List.{List}
 use Prim.Native.Nat.{ℕ, ◌+◌, ◌≤◌}
 use native.Mathlib.Nat.{le_refl}
@@ -37,6 +37,9 @@ module _ (L : Limits) where
   accepted_room q e P r = reached_room (question q) P (question_under L q e).0 r
 
   -- ---- what the run, the writer and the checker hold
+
+  pub question_reachable : (q : List ℕ) → reading_under L q ≡ accepted → {S : Sequent} → S ≡ question q → ReachableUnder L S
+  question_reachable q e {S} is = subst (ReachableUnder L) (sym is) (record { question = question q; within = (question_under L q e).0; reached = here })
 
   pub reachable_room : (S : Sequent) → ReachableUnder L S → size S ≤ room L
   reachable_room S r = reached_room r.question S r.within r.reached

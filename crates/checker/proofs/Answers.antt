@@ -7,15 +7,16 @@ use mathlib.Core.List.{List, [], ◌∷◌}
 use Prim.Native.Nat.{ℕ, ◌≤◌, ◌<◌}
 use native.Mathlib.Omega.{arith}
 use lib.ListN.{length, drop, drop_of_length-le, length-drop}
-use Rattle.calculus.specs.Limits.{BYTES_AFTER}
-use Rattle.calculus.specs.Syntax.{Sequent, c, size}
+use Rattle.calculus.specs.Limits.{LIMITS, BYTES_AFTER}
+use Rattle.calculus.specs.Syntax.{Sequent}
 use Rattle.calculus.specs.Bytes.{question}
 use Rattle.calculus.specs.Truth.{Valid}
 use Rattle.calculus.specs.Reading.{Reading, accepted, refused, reading}
 use Rattle.calculus.specs.Derivation.{Derivation, Checked, passes, faulty, check, checking}
 use Rattle.calculus.specs.Reply.{Reply, if_read, checked_reply, check_reply}
 use Rattle.calculus.proofs.Derivations.{passes_true, passes_exactly}
-use Rattle.calculus.proofs.Readings.{accepted_question, within_room}
+use Rattle.calculus.specs.Reached.{Reachable}
+use Rattle.calculus.proofs.Room.{question_reachable}
 use Rattle.question.specs.declared.Refusal.{Refusal}
 use Rattle.question.specs.Answers.{number_of, place_of}
 use Rattle.sequent.specs.declared.Running.{Running}
@@ -25,14 +26,12 @@ use Rattle.checker.specs.declared.Fault.TheVariants.{BytesAfter}
 use Rattle.checker.specs.declared.NotPassed.{NotPassed}
 use Rattle.checker.specs.declared.NotPassed.TheVariants.{Refused, Faulty}
 use Rattle.checker.specs.Answers.{fault_number, fault_place, check_of}
-use Rattle.checker.specs.Walks.{Roomy, Walks}
+use Rattle.checker.specs.Walks.{Walks}
 
--- The running sequent of an accepted question, whose lists are lent, leaves room.
-pub root_roomy : (q : List ℕ) {T U items xs : List ℕ} {s : Running} → reading q ≡ accepted → Good T items s × (sequent_of T items s ≡ question q) → (U ≡ T) × (xs ≡ items)
-    → Good U xs s × Roomy (sequent_of U xs s)
-root_roomy q {T} {U} {items} {xs} {s} e root lent =
-    let k : Roomy (sequent_of T items s) = omega (arith, within_room (question q) (accepted_question q e).0, ap c root.1, ap size root.1) in
-    rw (lent.0, lent.1) (root.0, k)
+-- The running sequent of an accepted question, whose lists are lent, is reached from it.
+pub root_reached : (q : List ℕ) {T U items xs : List ℕ} {s : Running} → reading q ≡ accepted → Good T items s × (sequent_of T items s ≡ question q) → (U ≡ T) × (xs ≡ items)
+    → Good U xs s × Reachable (sequent_of U xs s)
+root_reached q e root lent = rw (lent.0, lent.1) (root.0, question_reachable LIMITS q e root.1)
 
 -- Where the reply is that the derivation passes, the question is accepted and the derivation passes.
 pass_reply : (q d : List ℕ) → check_of (Ok tt) ≡ check_reply q d → (reading q ≡ accepted) × (checking (question q) d ≡ passes)

@@ -12,16 +12,13 @@ use lib.ListN.{length, get_or, get_elem?, length-map}
 use borrow.Author.Tests.{ne_eqb}
 use Rattle.calculus.specs.declared.Side.{Side}
 use Rattle.calculus.specs.declared.Side.TheVariants.{Left, Right}
-use Rattle.calculus.specs.Fold.{Each, choose}
-use Rattle.calculus.specs.Limits.{ROOM, LETTERS, OTHER_CONNECTIVE, NOT_CLOSED}
-use Rattle.calculus.specs.Syntax.{Connective, NOT, two, Formula, letter, Compound, compound, whole, Sequent, on_side, size}
+use Rattle.calculus.specs.Fold.{choose}
+use Rattle.calculus.specs.Limits.{LETTERS, OTHER_CONNECTIVE, NOT_CLOSED}
+use Rattle.calculus.specs.Syntax.{Connective, NOT, two, Formula, letter, Compound, compound, whole, Sequent, on_side}
 use Rattle.calculus.specs.Bytes.{CONNECTIVE, code}
-use Rattle.calculus.specs.Table.{premises}
 use Rattle.calculus.specs.Truth.{bit}
 use Rattle.calculus.specs.Tree.{letters}
 use Rattle.calculus.specs.Derivation.{Order as Command, CLOSE, Move as Said, fault, waiting, named, pairs, obey}
-use Rattle.calculus.proofs.Folds.{each}
-use Rattle.calculus.proofs.Sequents.{Due, weight_size, Smaller, smaller}
 use Rattle.calculus.proofs.Trees.{bit_state, Letter}
 use Rattle.calculus.proofs.Derivations.{named_whole, pairs_whole, equals_not}
 use Rattle.question.specs.declared.connective.Connective.{Connective as Named}
@@ -38,12 +35,7 @@ use Rattle.checker.specs.declared.Fault.{Fault}
 use Rattle.checker.specs.declared.Fault.TheVariants.{NoFormula, OtherConnective, NotClosed, NotEqual}
 use Rattle.checker.specs.declared.Move.{Move}
 use Rattle.checker.specs.declared.Move.TheVariants.{Closed, Paired, Reduce}
-use Rattle.checker.specs.Walks.{Roomy, Moves}
-
--- ---- premises leave room again
-
-pub roomy_premises : (t : Side) (i : ℕ) (x : Compound) (S : Sequent) → Due S t i x → Roomy S → Each Roomy (premises t i x S)
-roomy_premises t i x S h k = each (Smaller S) Roomy (λ P l. omega (arith, l.1, weight_size S, weight_size P)) (premises t i x S) (smaller t i x S h)
+use Rattle.checker.specs.Walks.{Moves}
 
 -- ---- formulas at places
 
@@ -115,13 +107,12 @@ module _ {T items : List ℕ} {s : Running} (good : Good T items s) where
               by NOT e = rw e
               by (two o) e = rw e
 
-          pub reduces : Roomy (sequent_of T items s) → j ≡ k → Moves T items s at (At n) (Ok (Reduce r))
-          reduces roomy same =
+          pub reduces : j ≡ k → Moves T items s at (At n) (Ok (Reduce r))
+          reduces same =
               let l : connective_of k ≡ x.connective = one_command k x.connective (ap command_of (sym same) ∙ d ∙ command) in
-              let w = roomy_premises t i x (sequent_of T items s) (stands T items s good t i h c) roomy in
               operand (Ok (Reduce r)) (subst (λ (u : Reduction). Moves T items s at (At i) (Ok (Reduce u))) (sym e) (
                 stands_there ∙ ap (λ (l : Connective). named t i l (sequent_of T items s) (some (whole x))) l ∙ named_whole t i x (sequent_of T items s),
-                record { inside = h; compound = c; exact = refl; fits = each Roomy (λ P. size P ≤ ROOM) (λ P l. omega arith) (premises t i x (sequent_of T items s)) w },
+                record { inside = h; compound = c; exact = refl },
               ))
 
   -- ---- 42 at a left and a right place, u and v, which are the operands i and j

@@ -9,26 +9,26 @@ use native.Mathlib.Omega.{arith}
 use native.Mathlib.Decide.{dec_lt}
 use lib.ListN.{length, take, drop, get_or, get_elem?, length-drop, take-append-drop}
 use lib.Seq.{drop-cons, drop-drop}
-use Rattle.calculus.specs.Fold.{Each, fold, SUM}
+use Rattle.calculus.specs.Fold.{fold, SUM}
 use Rattle.calculus.specs.Limits.{ROOM, CUT_SHORT}
 use Rattle.calculus.specs.Syntax.{Sequent, size}
 use Rattle.calculus.specs.Derivation.{Move as Said, fault, waiting, shut, obey, order, faulty, proceed, check}
-use Rattle.calculus.proofs.Folds.{fold_append, each_at}
+use Rattle.calculus.proofs.Folds.{fold_append}
 use Rattle.calculus.proofs.Derivations.{Obeyed, obeyed}
 use Rattle.sequent.specs.declared.Placing.{Placing}
 use Rattle.sequent.specs.declared.Counted.{Counted}
 use Rattle.sequent.specs.declared.Running.{Running}
 use Rattle.sequent.specs.declared.Reduction.{Reduction}
-use Rattle.sequent.specs.View.{view, sequent_of, Good}
-use Rattle.sequent.specs.Compounds.{compound_at, rule_for, premises_at, premise_by, Reducible}
-use Rattle.sequent.proofs.Lists.{each_unmap}
+use Rattle.sequent.specs.View.{sequent_of, Good}
+use Rattle.sequent.specs.Compounds.{rule_for, premises_at, premise_by, Reducible}
 use Rattle.sequent.proofs.Placings.{nowhere, next, next_ends, Summed, sum_starts, sum_goes, sum_ends}
-use Rattle.sequent.proofs.Goods.{stands, premises_made, few, makes_next}
+use Rattle.calculus.specs.Reached.{Reachable}
+use Rattle.sequent.proofs.Goods.{premises_made, few, makes_next, made_small}
 use Rattle.checker.specs.declared.Fault.{Fault}
 use Rattle.checker.specs.declared.Fault.TheVariants.{CutShort}
 use Rattle.checker.specs.Answers.{fault_number, fault_place}
-use Rattle.checker.specs.Walks.{Roomy, Walks, Tallied}
-use Rattle.checker.proofs.Commands.{roomy_premises, past}
+use Rattle.checker.specs.Walks.{Walks, Tallied}
+use Rattle.checker.proofs.Commands.{past}
 
 -- ---- one command
 
@@ -127,13 +127,6 @@ ahead_starts d F r o h = record { sum = sum_starts F r; inside = h; walks = λ R
 
 -- the premises of a reduction
 module _ {T items : List ℕ} {s : Running} (good : Good T items s) {r : Reduction} (can : Reducible T items s r) {rule : List Placing} (by : rule ≡ rule_for r) where
-  -- the next one leaves room again
-  pub roomy_next : Roomy (sequent_of T items s) → (j : ℕ) → j < length rule → Roomy (premise_by T items s r (get_or rule j nowhere))
-  roomy_next roomy j h =
-      each_at (λ p. Roomy (premise_by T items s r p)) rule j nowhere
-      (each_unmap (premise_by T items s r) Roomy rule (subst (Each Roomy) (sym (premises_made T items s good r can rule by))
-      (roomy_premises r.place.side r.place.at (compound_at T r.place.side r.place.at (view s items)) (sequent_of T items s) (stands T items s good r.place.side r.place.at can.inside can.compound) roomy))) h
-
   module _ {d : List ℕ} {o j e n : ℕ} (a : Ahead d (premise_by T items s r) rule o j e n) where
     abbrev F : Placing → Sequent
     F = premise_by T items s r
@@ -148,12 +141,12 @@ module _ {T items : List ℕ} {s : Running} (good : Good T items s) {r : Reducti
           stores = sum_ends F rule j n a.sum h;
         })
 
-    module _ (h : j < length rule) where
+    module _ (reached : Reachable (sequent_of T items s)) (h : j < length rule) where
       abbrev P : Sequent
       P = F (get_or rule j nowhere)
 
       small : size P ≤ ROOM
-      small = (makes_next T items s good r can rule by j h).small
+      small = made_small T items s r (get_or rule j nowhere) (makes_next T items s good r can rule by reached j h)
 
       module _ (w : Counted (Result ℕ Fault)) (walked : Walks d (P ∷ []) e w.value × (w.stores ≡ size P)) where
         pub stores_fit : n + w.stores ≤ 2 * ROOM

@@ -1,8 +1,7 @@
 -- The checker's steps, each by the documents' definitions.
-use Rattle.std.specs.Prelude.{◌≡◌, List, [], ◌++◌, ℕ, ◌+◌, ◌≤◌, length, take, drop, Result, Ok, Err}
+use Rattle.std.specs.Prelude.{◌≡◌, List, [], ◌++◌, ℕ, ◌≤◌, length, take, drop, Result, Ok, Err}
 use Rattle.calculus.specs.Fold.{fold, SUM}
-use Rattle.calculus.specs.Limits.{ROOM}
-use Rattle.calculus.specs.Syntax.{Sequent, c, size}
+use Rattle.calculus.specs.Syntax.{Sequent, size}
 use Rattle.calculus.specs.Derivation.{Move as Said, fault, waiting, shut, faulty, check}
 use Rattle.sequent.specs.declared.Counted.{Counted}
 use Rattle.sequent.specs.declared.Running.{Running}
@@ -22,10 +21,6 @@ Moves T items s at m (Ok Paired) = m ≡ shut
 Moves T items s at m (Ok (Reduce r)) = (m ≡ waiting (premises_at T items s r)) × Reducible T items s r
 
 -- ---- the derivations of sequents from a place on, one after the other, whatever waits after them
-
--- formulas and connectives together leave room for every premise to come
-abbrev pub Roomy : Sequent → Type 0
-Roomy S = size S + c S ≤ ROOM
 
 abbrev pub Walks : List ℕ → List Sequent → ℕ → Result ℕ Fault → Type 0
 Walks d Ss at (Ok e) = (e ≤ length d) × ((Ps : List Sequent) → check (drop at d) (Ss ++ Ps) at ≡ check (drop e d) Ps e)

@@ -6,6 +6,7 @@ ghost use Rattle.std.proofs.Math.Option.{some};
 ghost use Rattle.std.proofs.Math.ListN.{get_elem?};
 ghost use Rattle.calculus.specs.Syntax.{on_side, size};
 ghost use Rattle.calculus.specs.Bytes.{question};
+ghost use Rattle.calculus.specs.Reached.{Reachable};
 ghost use Rattle.calculus.specs.Truth.{bit, Valid};
 ghost use Rattle.calculus.specs.Reading.{accepted, reading};
 ghost use Rattle.calculus.specs.Derivation.{PAIR, order, named, pairs, obey, Derivation};
@@ -15,7 +16,7 @@ ghost use Rattle.sequent.specs.View.{Good, sequent_of};
 ghost use Rattle.sequent.specs.Compounds.{premises_at, premise_by, Reducible, Makes};
 ghost use Rattle.checker.specs.Answers.{fault_number, fault_place, check_of};
 ghost use Rattle.checker.specs.declared.NotPassed.TheVariants.{Refused, Faulty};
-ghost use Rattle.checker.specs.Walks.{Moves, Roomy, Walks, Tallied};
+ghost use Rattle.checker.specs.Walks.{Moves, Walks, Tallied};
 
 use calculus::Side;
 use names::Lists;
@@ -124,7 +125,7 @@ fn formula_named(
     place: u8,
     at: usize,
 ) -> Result<Move, Fault>
-    requires { Good t.nodes.now t.items.now s × Roomy (sequent_of t.nodes.now t.items.now s) }
+    requires { Good t.nodes.now t.items.now s }
     ensures { Moves
         t.entry.nodes.now
         t.entry.items.now
@@ -209,9 +210,7 @@ fn obey_pair(t: Names<'_>, d: &[u8], s: Running, left: u8, at: usize) -> Result<
 
 // The command at a place of the derivation, where two bytes are left.
 fn obey(t: Names<'_>, d: &[u8], s: Running, at: usize) -> Result<Move, Fault>
-    requires { Good t.nodes.now t.items.now s
-        × Roomy (sequent_of t.nodes.now t.items.now s)
-        × (at + 2 ≤ length d.now) }
+    requires { Good t.nodes.now t.items.now s × (at + 2 ≤ length d.now) }
     ensures { Moves
         t.entry.nodes.now
         t.entry.items.now
@@ -245,7 +244,7 @@ fn obey(t: Names<'_>, d: &[u8], s: Running, at: usize) -> Result<Move, Fault>
 // derivation, so both go along, and not the bytes from there on; one value of both would be made anew at each command.
 #[cycle(walk_walk_premise_walk_premises)]
 fn walk(t: Names<'_>, d: &[u8], s: Running, at: usize) -> Result<usize, Fault>
-    requires { Good t.nodes.now t.items.now s × Roomy (sequent_of t.nodes.now t.items.now s) × (at ≤ length d.now) }
+    requires { Good t.nodes.now t.items.now s × Reachable (sequent_of t.nodes.now t.items.now s) × (at ≤ length d.now) }
     ensures { Walks d.now (sequent_of t.entry.nodes.now t.entry.items.now s ∷ []) at result }
 {
     if d.len() - at < 2 {
@@ -269,9 +268,7 @@ fn walk_premise(
     p: Placing,
     at: usize,
 ) -> Counted<Result<usize, Fault>>
-    requires { Makes t.nodes.now t.items.now s r p
-        × Roomy (premise_by t.nodes.now t.items.now s r p)
-        × (at ≤ length d.now) }
+    requires { Makes t.nodes.now t.items.now s r p × (at ≤ length d.now) }
     ensures { Walks d.now (premise_by t.entry.nodes.now t.entry.items.now s r p ∷ []) at result.value
         × (result.stores ≡ size (premise_by t.entry.nodes.now t.entry.items.now s r p)) }
 {
@@ -294,7 +291,7 @@ fn walk_premises(
     at: usize,
 ) -> Counted<Result<usize, Fault>>
     requires { Good t.nodes.now t.items.now s
-        × Roomy (sequent_of t.nodes.now t.items.now s)
+        × Reachable (sequent_of t.nodes.now t.items.now s)
         × Reducible t.nodes.now t.items.now s r
         × (at ≤ length d.now) }
     ensures { Tallied d.now (premises_at t.entry.nodes.now t.entry.items.now s r) at result }

@@ -6,7 +6,7 @@ use Prim.Native.Nat.{ℕ, ◌≤◌, ◌<◌}
 use native.Mathlib.Decide.{dec_lt}
 use native.Mathlib.Omega.{arith}
 use Rattle.calculus.specs.declared.Kind.{Kind}
-use Rattle.calculus.specs.declared.Kind.TheVariants.{Theorem, Refuted, Spent, Full}
+use Rattle.calculus.specs.declared.Kind.TheVariants.{Theorem, Refuted, Spent}
 use Rattle.calculus.specs.declared.Outcome.{Outcome}
 use Rattle.calculus.specs.declared.Verdict.{Verdict}
 use Rattle.calculus.specs.Syntax.{Sequent}
@@ -29,7 +29,7 @@ truthful : (b : ℕ) (S : Sequent) → Truthful S (verdict b S)
 truthful b S =
     record {
       sound = λ e. kinds b S (λ s. absurd (apart s e)) (λ t. theorem_true S (sym t ∙ e));
-      complete = λ n m v. kinds b S (λ s. absurd (n s)) (λ t. t ∙ (theorem_exactly S (λ f. m (t ∙ f))).1 v);
+      complete = λ n v. kinds b S (λ s. absurd (n s)) (λ t. t ∙ (theorem_exactly S).1 v);
       refutes = λ σ e. kinds b S (λ s. absurd (apart_refuted σ s e)) (λ t. refuted_false S σ (sym t ∙ e));
     }
   where
@@ -53,7 +53,6 @@ counted b S =
     open_early Theorem = omega arith
     open_early (Refuted σ) = omega arith
     open_early Spent = omega arith
-    open_early Full = omega arith
 
 -- ---- the answers
 

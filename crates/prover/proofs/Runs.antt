@@ -8,17 +8,18 @@ use native.Mathlib.Omega.{arith}
 use lib.ListN.{length, drop, get_or}
 use lib.Pow.{pow_mono}
 use Rattle.calculus.specs.declared.Kind.{Kind}
-use Rattle.calculus.specs.declared.Kind.TheVariants.{Theorem, Refuted, Spent, Full}
+use Rattle.calculus.specs.declared.Kind.TheVariants.{Theorem, Refuted, Spent}
 use Rattle.calculus.specs.declared.Outcome.{Outcome}
 use Rattle.calculus.specs.Fold.{fold, SUM}
-use Rattle.calculus.specs.Limits.{ROOM, CONNECTIVES}
+use Rattle.calculus.specs.Limits.{LIMITS, ROOM, CONNECTIVES}
 use Rattle.calculus.specs.Syntax.{Sequent, c, size}
 use Rattle.calculus.specs.Tree.{lettered, paired, Event, close, reduce, closings, closings_before, tree, spend, outcome, and_then, pass, act}
 use Rattle.calculus.proofs.Bounds.{closings_bound, W_bound}
 use Rattle.calculus.proofs.Budgets.{spend_closings, outcome_step}
+use Rattle.calculus.proofs.Room.{reachable_few}
 use Rattle.sequent.specs.declared.Placing.{Placing}
 use Rattle.sequent.proofs.Placings.{nowhere, next, next_ends}
-use Rattle.sequent.proofs.Goods.{premises_made, few, makes_next}
+use Rattle.sequent.proofs.Goods.{premises_made, few, makes_next, made_small}
 use Rattle.sequent.specs.declared.Reduction.{Reduction}
 use Rattle.sequent.specs.Compounds.{rule_for, premises_at, premise_by, Makes}
 use Rattle.sequent.specs.declared.Running.{Running}
@@ -61,7 +62,6 @@ stops : (k : Kind) → (k ≡ Theorem → ⊥) → (o : Outcome) (u : ℕ → Ou
 stops Theorem n o u Ps = absurd (n refl)
 stops (Refuted σ) n o u Ps = (refl, refl)
 stops Spent n o u Ps = (refl, refl)
-stops Full n o u Ps = (refl, refl)
 
 -- an outcome so far, and that of the premise after it
 abbrev pub and_so : Outcome → Outcome → Outcome
@@ -71,7 +71,6 @@ and_so o v = record { kind = v.kind; unspent = v.unspent; closings = o.closings 
 pub record Ahead (T items : List ℕ) (s : Running) (r : Reduction) (rule : List Placing) (b j : ℕ) (o : Outcome) (n : ℕ) : Type 0 where
   pub reduction : First T items s r
   pub rows : rule ≡ rule_for r
-  pub inside : c (sequent_of T items s) ≤ CONNECTIVES
   pub closed : o.kind ≡ Theorem
   pub outcome : pass outcome b (map (premise_by T items s r) rule) ≡ and_so o (pass outcome o.unspent (map (premise_by T items s r) (drop j rule)))
   pub stores : n + fold SUM size (made o.unspent (map (premise_by T items s r) (drop j rule))) ≡ fold SUM size (made b (map (premise_by T items s r) rule))
@@ -79,14 +78,13 @@ pub record Ahead (T items : List ℕ) (s : Running) (r : Reduction) (rule : List
   pub among : o.pairings ≤ o.closings
   pub small : n ≤ ROOM * j
 
-pub ahead_starts : {T items : List ℕ} {s : Running} {r : Reduction} → First T items s r → {rule : List Placing} → rule ≡ rule_for r → c (sequent_of T items s) ≤ CONNECTIVES → (b : ℕ)
+pub ahead_starts : {T items : List ℕ} {s : Running} {r : Reduction} → First T items s r → {rule : List Placing} → rule ≡ rule_for r → (b : ℕ)
     → Ahead T items s r rule b 0 (ended Theorem b 0 0) 0
-ahead_starts {T} {items} {s} {r} f {rule} e k b =
+ahead_starts {T} {items} {s} {r} f {rule} e b =
     let v = pass outcome b (map (premise_by T items s r) rule) in
     record {
       reduction = f;
       rows = e;
-      inside = k;
       closed = refl;
       outcome = λ i. record { kind = v.kind; unspent = v.unspent; closings = sym (zero-add v.closings) i; pairings = sym (zero-add v.pairings) i };
       stores = zero-add _;
@@ -105,7 +103,10 @@ module _ {T items : List ℕ} {s : Running} {r : Reduction} {rule : List Placing
   module _ (h : j < length rule) where
     -- the next premise can be made
     pub ahead_makes : Makes T items s r (get_or rule j nowhere)
-    ahead_makes = makes_next T items s a.reduction.good r a.reduction.can rule a.rows j h
+    ahead_makes = makes_next T items s a.reduction.good r a.reduction.can rule a.rows a.reduction.reached j h
+
+    ahead_small : size (premise_at j) ≤ ROOM
+    ahead_small = made_small T items s r (get_or rule j nowhere) ahead_makes
 
     abbrev rest : List Sequent
     rest = map (premise_by T items s r) (drop (j + 1) rule)
@@ -120,7 +121,7 @@ module _ {T items : List ℕ} {s : Running} {r : Reduction} {rule : List Placing
           ∙ ap (λ (v : Outcome). premise_at j ∷ after v.kind (made v.unspent rest)) (sym e.outcome)
 
       closings_fit : u.value.closings ≤ 2 ^ CONNECTIVES
-      closings_fit = omega (arith, ap (λ (v : Outcome). v.closings) e.outcome, closings_small o.unspent (premise_at j) (omega (arith, ahead_makes.fewer, a.inside)))
+      closings_fit = omega (arith, ap (λ (v : Outcome). v.closings) e.outcome, closings_small o.unspent (premise_at j) (reachable_few LIMITS (premise_at j) ahead_makes.reached))
 
       pairings_fit : u.value.pairings ≤ u.value.closings
       pairings_fit = subst (λ (v : Outcome). v.pairings ≤ v.closings) (sym e.outcome) (pairings_small o.unspent (premise_at j))
@@ -131,7 +132,7 @@ module _ {T items : List ℕ} {s : Running} {r : Reduction} {rule : List Placing
           let two = few T items s a.reduction.good r a.reduction.can rule a.rows in
           let k = closings_fit in
           let m = pairings_fit in
-          (omega (arith, a.few), omega (arith, a.few, a.among), omega (arith, a.small, e.stores, ahead_makes.small))
+          (omega (arith, a.few), omega (arith, a.few, a.among), omega (arith, a.small, e.stores, ahead_small))
 
       pub ahead_goes : u.value.kind ≡ Theorem → Ahead T items s r rule b (j + 1) (and_so o u.value) (n + u.stores)
       ahead_goes t =
@@ -142,13 +143,12 @@ module _ {T items : List ℕ} {s : Running} {r : Reduction} {rule : List Placing
           record {
             reduction = a.reduction;
             rows = a.rows;
-            inside = a.inside;
             closed = t;
             outcome = a.outcome ∙ ap (and_so o) (rw t at opened) ∙ (λ i. record { kind = v.kind; unspent = v.unspent; closings = sym (add_assoc o.closings u.value.closings v.closings) i; pairings = sym (add_assoc o.pairings u.value.pairings v.pairings) i });
             stores = omega (arith, a.stores, ap (fold SUM size) w, e.stores);
             few = omega (arith, a.few);
             among = omega (arith, a.among);
-            small = omega (arith, a.small, e.stores, ahead_makes.small);
+            small = omega (arith, a.small, e.stores, ahead_small);
           }
 
       pub ahead_stops : (u.value.kind ≡ Theorem → ⊥) → Comes b (premises_at T items s r) (record { value = and_so o u.value; stores = n + u.stores })
@@ -176,7 +176,6 @@ after_none : (k : Kind) → after k [] ≡ []
 after_none Theorem = refl
 after_none (Refuted σ) = refl
 after_none Spent = refl
-after_none Full = refl
 
 pub made_one : (b : ℕ) (P : Sequent) → made b (P ∷ []) ≡ P ∷ []
 made_one b P = ap (λ (Ps : List Sequent). P ∷ Ps) (after_none (outcome b P).kind)

@@ -6,39 +6,23 @@ use mathlib.Core.Option.{Option, none, some}
 use mathlib.Core.List.{List, [], ◌∷◌}
 use Prim.Native.Nat.{ℕ, zero, suc, ◌+◌, ◌%◌, ◌^◌, ◌≤◌, ◌<◌}
 use native.Mathlib.Omega.{arith}
-use lib.Dec.{ltb}
 use lib.Bits.{bit_and}
 use lib.Count.{count_trailing_zeros}
-use borrow.Author.Tests.{ltb-false}
 use Rattle.calculus.specs.declared.Side.{Side}
 use Rattle.calculus.specs.declared.Side.TheVariants.{Left, Right}
-use Rattle.calculus.specs.Fold.{fold, ANY, Each, choose}
 use Rattle.calculus.specs.Limits.{ROOM, LETTERS}
-use Rattle.calculus.specs.Syntax.{Connective, Formula, Sequent, size}
-use Rattle.calculus.specs.Bytes.{CONNECTIVE, code}
-use Rattle.calculus.specs.Table.{premises}
-use Rattle.calculus.specs.Tree.{letters, state, common, twins, either, Way, lettered, paired, closing, first, due, tests, full, reduced, is_closed, is_open, is_full, is_spent, is_due, afford, inner}
-use Rattle.calculus.proofs.Folds.{or_false_both}
+use Rattle.calculus.specs.Syntax.{Formula, Compound}
+use Rattle.calculus.specs.Tree.{letters, state, common, twins, either, Way, lettered, paired, closing, first, tests, reduced, is_closed, is_open, is_due, afford, inner}
 use Rattle.sequent.specs.declared.Running.{Running}
 use Rattle.sequent.specs.declared.Reduction.{Reduction}
 use Rattle.std.specs.Prelude.{Some, None}
 use Rattle.calculus.specs.declared.Pair.{Pair}
-use Rattle.sequent.specs.Rule.{overfull_of}
 use Rattle.sequent.specs.View.{view, count_of, name_at, sequent_of, Good}
-use Rattle.sequent.specs.Compounds.{FoundAt, Found, Paired, compound_at, rule_for, reduction_at}
+use Rattle.sequent.specs.Compounds.{FoundAt, Found, Paired, compound_at, reduction_at}
 use Rattle.sequent.proofs.Restarts.{found_inside, found_name}
-use Rattle.sequent.proofs.Goods.{held, slot_name, compounded, full_is, masks_state, twins_are, found_left, found_right, found_nowhere}
+use Rattle.sequent.proofs.Goods.{held, slot_name, masks_state, twins_are, found_left, found_right, found_nowhere}
 use Rattle.prover.specs.Inner.{ReadyAt}
 use Rattle.prover.proofs.Closings.{no_common, lowest_common}
-
--- ---- FULL
-
--- no premise is over the room
-each_within : (Ps : List Sequent) → fold ANY (λ P. ltb ROOM (size P)) Ps ≡ false → Each (λ P. size P ≤ ROOM) Ps
-each_within [] h = tt
-each_within (P ∷ Ps) h =
-    let w = or_false_both (ltb ROOM (size P)) (fold ANY (λ P. ltb ROOM (size P)) Ps) h in
-    (ltb-false ROOM (size P) w.0, each_within Ps w.1)
 
 -- ---- the reduction of the first compound
 
@@ -49,51 +33,29 @@ module _ {T items : List ℕ} {s : Running} (good : Good T items s) (t : Side) (
   pub first_name : LETTERS ≤ name_at t i (view s items)
   first_name = rw (slot_name T items s good t i first_inside) at (found_name s items good.places good.room t i found)
 
-  pub first_command : {r : Reduction} → r ≡ reduction_at T t i (view s items) → (k : Connective) × (code (CONNECTIVE k) ≡ r.node % 256)
-  first_command {r} e =
-      ((compound_at T t i (view s items)).connective, sym (ap (λ (u : Reduction). u.node % 256) e ∙ (compounded T items s good t i first_inside first_name).command))
+  abbrev x : Compound
+  x = compound_at T t i (view s items)
 
-  module _ {r : Reduction} (e : r ≡ reduction_at T t i (view s items)) {b : Bool} (f : b ≡ overfull_of (rule_for r) (s.left.count + s.right.count)) (left : ℕ) where
-    full_test : fold ANY (λ P. ltb ROOM (size P)) (premises t i (compound_at T t i (view s items)) (sequent_of T items s)) ≡ b
-    full_test = full_is T items s good t i first_inside first_name r e ∙ sym f
+  module _ {r : Reduction} (e : r ≡ reduction_at T t i (view s items)) (left : ℕ) (z : left ≡ 0 → ⊥) where
+    pub due_reduce : is_due r.place.side r.place.at (compound_at T r.place.side r.place.at (view s items)) ≡ afford left (reduced t i x)
+    due_reduce = ap (λ (u : Reduction). is_due u.place.side u.place.at (compound_at T u.place.side u.place.at (view s items))) e ∙ go left z
+      where
+        go : (l : ℕ) → (l ≡ 0 → ⊥) → is_due t i x ≡ afford l (reduced t i x)
+        go zero z = absurd (z refl)
+        go (suc l) z = refl
 
-    due_is : due (sequent_of T items s) t i (compound_at T t i (view s items)) ≡ choose b full (reduced t i (compound_at T t i (view s items)))
-    due_is = ap (λ (w : Bool). choose w full (reduced t i (compound_at T t i (view s items)))) full_test
-
-    pub due_full : b ≡ true → is_full ≡ afford left (due (sequent_of T items s) t i (compound_at T t i (view s items)))
-    due_full h = rw (due_is, h)
-
-    pub due_spent : b ≡ false → left ≡ 0 → is_spent ≡ afford left (due (sequent_of T items s) t i (compound_at T t i (view s items)))
-    due_spent h z = rw (due_is, h, z)
-
-    module _ (h : b ≡ false) (z : left ≡ 0 → ⊥) where
-      due_now : is_due t i (compound_at T t i (view s items)) ≡ afford left (due (sequent_of T items s) t i (compound_at T t i (view s items)))
-      due_now = rw (due_is, h) (go left z)
-        where
-          go : (l : ℕ) → (l ≡ 0 → ⊥) → is_due t i (compound_at T t i (view s items)) ≡ afford l (reduced t i (compound_at T t i (view s items)))
-          go zero z = absurd (z refl)
-          go (suc l) z = refl
-
-      pub due_reduce : is_due r.place.side r.place.at (compound_at T r.place.side r.place.at (view s items)) ≡ afford left (due (sequent_of T items s) t i (compound_at T t i (view s items)))
-      due_reduce = ap (λ (u : Reduction). is_due u.place.side u.place.at (compound_at T u.place.side u.place.at (view s items))) e ∙ due_now
-
-      pub due_ready : ReadyAt T items s left r
-      due_ready =
-          subst (ReadyAt T items s left) (sym e)
-          (record {
-            found = found;
-            can = record {
-              inside = first_inside;
-              compound = first_name;
-              exact = refl;
-              fits = each_within (premises t i (compound_at T t i (view s items)) (sequent_of T items s)) (full_test ∙ h);
-            };
-            affords = go left z;
-          })
-        where
-          go : (l : ℕ) → (l ≡ 0 → ⊥) → 0 < l
-          go zero z = absurd (z refl)
-          go (suc l) z = omega arith
+    pub due_ready : ReadyAt T items s left r
+    due_ready =
+        subst (ReadyAt T items s left) (sym e)
+        (record {
+          found = found;
+          can = record { inside = first_inside; compound = first_name; exact = refl };
+          affords = go left z;
+        })
+      where
+        go : (l : ℕ) → (l ≡ 0 → ⊥) → 0 < l
+        go zero z = absurd (z refl)
+        go (suc l) z = omega arith
 
 -- ---- the tests in their order
 
@@ -128,7 +90,7 @@ module _ {T items : List ℕ} {s : Running} (good : Good T items s) (left : ℕ)
     )
 
   pub inner_due : closing (sequent_of T items s) ≡ none → (t : Side) (i : ℕ) → FoundAt (view s items) t i
-      → afford left (due (sequent_of T items s) t i (compound_at T t i (view s items))) ≡ inner left (sequent_of T items s)
+      → afford left (reduced t i (compound_at T t i (view s items))) ≡ inner left (sequent_of T items s)
   inner_due e Left i h = rw (e, found_left T items s good i h)
   inner_due e Right i h = let w = found_right T items s good i h in rw (e, w.0, w.1)
 

@@ -1,7 +1,7 @@
 -- The answer of the call that decides: document 01's number and values, and what demands 2 and 3 say of it.
 use Rattle.std.specs.Prelude.{◌≡◌, ◌≢◌, ◌↔◌, true, false, List, [], ◌∷◌, ℕ, ◌+◌, ◌*◌, ◌≤◌, ◌<◌, Result, Ok, Err}
 use Rattle.calculus.specs.declared.Kind.{Kind}
-use Rattle.calculus.specs.declared.Kind.TheVariants.{Theorem, Refuted, Spent, Full}
+use Rattle.calculus.specs.declared.Kind.TheVariants.{Theorem, Refuted, Spent}
 use Rattle.calculus.specs.declared.Verdict.{Verdict}
 use Rattle.calculus.specs.Syntax.{Sequent, c}
 use Rattle.calculus.specs.Bytes.{question}
@@ -17,11 +17,11 @@ abbrev pub decision_of : Result Verdict Refusal → Reply
 decision_of (Ok v) = verdict_reply v.kind v.reductions v.closings
 decision_of (Err r) = record { number = number_of r; values = place_of r ∷ [] }
 
--- demand 2: "unless its run ends SPENT or FULL, an accepted question is a theorem exactly if every state makes it true,
+-- demand 2: "unless its run ends SPENT .., an accepted question is a theorem exactly if every state .. makes it true,
 -- and otherwise the state returned makes each left formula true and each right one false"
 pub record Truthful (S : Sequent) (v : Verdict) : Type 0 where
   pub sound : v.kind ≡ Theorem → Valid S
-  pub complete : v.kind ≢ Spent → v.kind ≢ Full → Valid S → v.kind ≡ Theorem
+  pub complete : v.kind ≢ Spent → Valid S → v.kind ≡ Theorem
   pub refutes : (σ : ℕ) → v.kind ≡ Refuted σ → Refutes σ S
 
 -- 1 where a sequent is open
@@ -29,7 +29,6 @@ abbrev pub open_one : Kind → ℕ
 open_one Theorem = 0
 open_one (Refuted σ) = 1
 open_one Spent = 0
-open_one Full = 0
 
 -- demand 3, with r the reductions and k the closings of the tree
 pub record Counted (S : Sequent) (b : ℕ) (v : Verdict) : Type 0 where

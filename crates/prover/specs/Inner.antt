@@ -2,20 +2,20 @@
 use Rattle.std.specs.Prelude.{◌≡◌, List, ℕ, ◌<◌}
 use Rattle.calculus.specs.Limits.{ROOM}
 use Rattle.calculus.specs.Syntax.{Seq}
-use Rattle.calculus.specs.Tree.{lettered, paired, Inner, is_closed, is_open, is_full, is_spent, is_due, inner}
+use Rattle.calculus.specs.Reached.{Reachable}
+use Rattle.calculus.specs.Tree.{lettered, paired, Inner, is_closed, is_open, is_spent, is_due, inner}
 use Rattle.sequent.specs.declared.Running.{Running}
 use Rattle.sequent.specs.declared.Reduction.{Reduction}
 use Rattle.sequent.specs.View.{view, sequent_of, Good}
 use Rattle.sequent.specs.Compounds.{FoundAt, compound_at, Reducible}
 use Rattle.prover.specs.declared.Finding.{Finding}
-use Rattle.prover.specs.declared.Finding.TheVariants.{Closed, Paired, Open, Full, Spent, Reduce}
+use Rattle.prover.specs.declared.Finding.TheVariants.{Closed, Paired, Open, Spent, Reduce}
 
 -- document 01's outcome of the tests, for each answer, where these are the names
 abbrev pub inner_of : List ℕ → Seq ℕ → Finding → Inner
 inner_of T N (Closed k) = is_closed (lettered k)
 inner_of T N (Paired p) = is_closed (paired p.left p.right)
 inner_of T N (Open σ) = is_open σ
-inner_of T N Full = is_full
 inner_of T N Spent = is_spent
 inner_of T N (Reduce r) = is_due r.place.side r.place.at (compound_at T r.place.side r.place.at N)
 
@@ -30,7 +30,6 @@ abbrev pub Ready : List ℕ → List ℕ → Running → ℕ → Finding → Typ
 Ready T items s left (Closed k) = Unit {0}
 Ready T items s left (Paired p) = (p.left < ROOM) × (p.right < ROOM)
 Ready T items s left (Open σ) = Unit {0}
-Ready T items s left Full = Unit {0}
 Ready T items s left Spent = Unit {0}
 Ready T items s left (Reduce r) = ReadyAt T items s left r
 
@@ -43,3 +42,4 @@ pub record First (T items : List ℕ) (s : Running) (r : Reduction) : Type 0 whe
   pub good : Good T items s
   pub found : FoundAt (view s items) r.place.side r.place.at
   pub can : Reducible T items s r
+  pub reached : Reachable (sequent_of T items s)

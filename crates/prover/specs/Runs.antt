@@ -1,7 +1,7 @@
 -- What a run comes to, and the premises that it makes.
 use Rattle.std.specs.Prelude.{◌≡◌, List, [], ◌∷◌, ℕ}
 use Rattle.calculus.specs.declared.Kind.{Kind}
-use Rattle.calculus.specs.declared.Kind.TheVariants.{Theorem, Refuted, Spent, Full}
+use Rattle.calculus.specs.declared.Kind.TheVariants.{Theorem, Refuted, Spent}
 use Rattle.calculus.specs.declared.Outcome.{Outcome}
 use Rattle.calculus.specs.Fold.{fold, SUM}
 use Rattle.calculus.specs.Syntax.{Sequent, size}
@@ -13,7 +13,6 @@ abbrev pub after : Kind → List Sequent → List Sequent
 after Theorem Ps = Ps
 after (Refuted σ) Ps = []
 after Spent Ps = []
-after Full Ps = []
 
 -- the premises that a run makes: "the first premise is finished, then the second is taken up"
 abbrev pub made : ℕ → List Sequent → List Sequent

@@ -1,23 +1,19 @@
 // The inner step on a running sequent, the run made from it, and the call that decides.
 #![tactic(auto)]
 
-ghost use Rattle.std.specs.Prelude.{◌≡◌, ◌%◌, ◌≤◌, IfOk};
+ghost use Rattle.std.specs.Prelude.{◌≡◌, ◌≤◌, IfOk};
 ghost use Rattle.std.proofs.Math.Option.{none};
-ghost use Rattle.calculus.specs.Limits;
-ghost use Rattle.calculus.specs.Fold.{Each};
-ghost use Rattle.calculus.specs.Limits.{CONNECTIVES};
-ghost use Rattle.calculus.specs.Syntax.{Connective, c, size};
-ghost use Rattle.calculus.specs.Bytes.{CONNECTIVE, code, question};
+ghost use Rattle.calculus.specs.Bytes.{question};
+ghost use Rattle.calculus.specs.Reached.{Reachable};
 ghost use Rattle.calculus.specs.Reply.{decide_reply};
-ghost use Rattle.calculus.specs.Tree.{verdict_of, verdict, outcome, closing, afford, due};
-ghost use Rattle.sequent.specs.Rule.{premise_of, overfull_of};
+ghost use Rattle.calculus.specs.Tree.{verdict_of, verdict, outcome, closing, afford, reduced};
 ghost use Rattle.sequent.specs.View.{view, sequent_of, Good};
-ghost use Rattle.sequent.specs.Compounds.{Clear, FoundAt, compound_at, rule_for, premises_at, premise_by, Makes};
+ghost use Rattle.sequent.specs.Compounds.{Clear, FoundAt, compound_at, premises_at, premise_by, Makes};
 ghost use Rattle.prover.specs.Answers.{decision_of, Promised};
 ghost use Rattle.prover.specs.Inner.{inner_of, Ready, Stepped, First};
 ghost use Rattle.prover.specs.Runs.{ended, Ran, Comes};
 
-use calculus::{Kind, Outcome, Pair, Side, Verdict};
+use calculus::{Kind, Outcome, Pair, Verdict};
 use names::Lists;
 use question::{Question, Refusal};
 use sequent::{Counted, Names, Place, Placing, ROOM, Reduction, Running};
@@ -31,59 +27,23 @@ pub enum Finding {
     Paired(Pair<usize>),
     // No connective is left: the state.
     Open(u64),
-    Full,
     Spent,
     // How the first compound reduces.
     Reduce(Reduction),
 }
 
-// How many parts each premise of a reduction places, on the left and on the right: a digit for each connective, at its command.
-// Read off the table of rules, `decide` takes 1.1 to 1.2 times as long, 1.15 to 1.25 of what it took; off a table of its own 1.03
-// to 1.1, 1.13 of what it took near the limits.
-const LEFT: u32 = 0x2_1_1_2_1_0_0;
-
-const RIGHT: u32 = 0x2_2_2_1_1_0_0;
-
-// The same of a reduction. Both premises of a rule place as many.
-fn placed(r: Reduction) -> usize
-    requires { (k : Connective) × (code (CONNECTIVE k) ≡ r.node % 256) }
-    ensures { Each (λ p. size (premise_of p) ≡ result) (rule_for r) }
-{
-    let row = match r.place.side {
-        Side::Left => LEFT,
-        Side::Right => RIGHT,
-    };
-    ((row >> (4 * r.command())) % 16) as usize
-}
-
-// Whether a premise of the reduction would hold more formulas than there is room for, n being held now.
-fn overfull(r: Reduction, n: usize) -> bool
-    requires { (n ≤ Limits.ROOM) × ((k : Connective) × (code (CONNECTIVE k) ≡ r.node % 256)) }
-    ensures { result ≡ overfull_of (rule_for r) n }
-{
-    ROOM + 1 < n + placed(r)
-}
-
-// The tests at a sequent whose first compound is at a place of a side: FULL, SPENT, then the reduction.
+// The tests at a sequent whose first compound is at a place of a side: SPENT, then the reduction.
 fn due_at(t: Names<'_>, s: Running, p: Place, left: u64) -> Finding
     requires { Good t.nodes.now t.items.now s × FoundAt (view s t.items.now) p.side p.at }
     ensures { (inner_of t.entry.nodes.now (view s t.entry.items.now) result
         ≡ afford left
-        (due
-        (sequent_of t.entry.nodes.now t.entry.items.now s)
-        p.side
-        p.at
-        (compound_at t.entry.nodes.now p.side p.at (view s t.entry.items.now))))
+        (reduced p.side p.at (compound_at t.entry.nodes.now p.side p.at (view s t.entry.items.now))))
         × Ready t.entry.nodes.now t.entry.items.now s left result }
 {
-    let r = s.reduction(t, p);
-    if overfull(r, s.left.count + s.right.count) {
-        return Finding::Full;
-    }
     if left == 0 {
         return Finding::Spent;
     }
-    Finding::Reduce(r)
+    Finding::Reduce(s.reduction(t, p))
 }
 
 // The tests at a sequent that is not closed.
@@ -127,19 +87,18 @@ fn ended(kind: Kind, left: u64, closings: u64, pairings: u64) -> Outcome
 }
 
 // The run: reductions left go in and come out. That names and nodes are good, that letters stand before `from`, and that the
-// connectives are few, stay in clauses here and above (`sequent::Names` says why).
+// sequent is reached from a question, stay in clauses here and above (`sequent::Names` says why).
 #[cycle(reduce_run_run_premise)]
 fn run(t: Names<'_>, s: Running, from: usize, left: u64) -> Outcome
     requires { Good t.nodes.now t.items.now s
         × Clear from t.items.now s
-        × (c (sequent_of t.nodes.now t.items.now s) ≤ CONNECTIVES) }
+        × Reachable (sequent_of t.nodes.now t.items.now s) }
     ensures { result ≡ outcome left (sequent_of t.entry.nodes.now t.entry.items.now s) }
 {
     match step(t, s, from, left) {
         Finding::Closed(_) => ended(Kind::Theorem, left, 1, 0),
         Finding::Paired(_) => ended(Kind::Theorem, left, 1, 1),
         Finding::Open(state) => ended(Kind::Refuted(state), left, 0, 0),
-        Finding::Full => ended(Kind::Full, left, 0, 0),
         Finding::Spent => ended(Kind::Spent, left, 0, 0),
         Finding::Reduce(r) => reduce(t, s, r, left - 1).value,
     }
@@ -149,8 +108,7 @@ fn run(t: Names<'_>, s: Running, from: usize, left: u64) -> Outcome
 #[cycle(reduce_run_run_premise)]
 fn run_premise(t: Names<'_>, s: Running, r: Reduction, p: Placing, left: u64) -> Counted<Outcome>
     requires { Makes t.nodes.now t.items.now s r p
-        × FoundAt (view s t.items.now) r.place.side r.place.at
-        × (c (sequent_of t.nodes.now t.items.now s) ≤ CONNECTIVES) }
+        × FoundAt (view s t.items.now) r.place.side r.place.at }
     ensures { Ran left (premise_by t.entry.nodes.now t.entry.items.now s r p) result }
 {
     let mut next = [0; ROOM];
@@ -165,8 +123,7 @@ fn run_premise(t: Names<'_>, s: Running, r: Reduction, p: Placing, left: u64) ->
 // The reduction that is due: the first premise is finished, then the second is taken up.
 #[cycle(reduce_run_run_premise)]
 fn reduce(t: Names<'_>, s: Running, r: Reduction, left: u64) -> Counted<Outcome>
-    requires { First t.nodes.now t.items.now s r
-        × (c (sequent_of t.nodes.now t.items.now s) ≤ CONNECTIVES) }
+    requires { First t.nodes.now t.items.now s r }
     ensures { Comes left (premises_at t.entry.nodes.now t.entry.items.now s r) result }
 {
     let rule = r.rule();

@@ -1,20 +1,22 @@
 -- What holds of a running sequent that a run or a check meets, and of the premises made of it.
 -- Assumes nothing.
-use Rattle.std.proofs.Common.{◌≡◌, refl, sym, ap, ◌∙◌, subst, Option as Optional, Some, None, List, [], ◌∷◌, map, ℕ, ◌+◌, ◌%◌, ◌≤◌, ◌<◌, arith, ltb, length, get_or, lt-ltb, le-ltb}
+use Rattle.std.proofs.Common.{◌≡◌, refl, sym, ap, ◌∙◌, subst, Option as Optional, Some, None, List, [], ◌∷◌, map, ℕ, ◌+◌, ◌%◌, ◌≤◌, ◌<◌, arith, length, get_or, lt-ltb, le-ltb}
 use Rattle.std.proofs.Math.Option.{Option, some}
 use Rattle.std.proofs.Math.Decide.{dec_lt}
 use Rattle.std.proofs.Math.ListN.{get_elem?}
 use Rattle.calculus.specs.declared.Side.{Side}
 use Rattle.calculus.specs.declared.Side.TheVariants.{Left, Right}
-use Rattle.calculus.specs.Fold.{fold, ANY, Each}
-use Rattle.calculus.specs.Limits.{ROOM, LETTERS, CONNECTIVES}
+use Rattle.calculus.specs.Fold.{fold, Each}
+use Rattle.calculus.specs.Limits.{LIMITS, ROOM, LETTERS, CONNECTIVES}
 use Rattle.calculus.specs.Syntax.{Connective, NOT, two, Formula, letter, neg, join, Compound, compound, whole, Seq, Sequent, on_side, c, size}
 use Rattle.calculus.specs.Bytes.{CONNECTIVE, code}
-use Rattle.calculus.specs.Table.{premise, premises, table}
+use Rattle.calculus.specs.Table.{Due, premise, premises, table}
+use Rattle.calculus.specs.Reached.{Reachable}
 use Rattle.calculus.specs.Tree.{letters, twins, unlike, alike, state, missing, here, later, first}
 use Rattle.calculus.specs.Derivation.{Pairs}
-use Rattle.calculus.proofs.Folds.{ones, each, each_and, each_at}
-use Rattle.calculus.proofs.Sequents.{Due, Smaller, smaller}
+use Rattle.calculus.proofs.Folds.{each, each_and, each_at}
+use Rattle.calculus.proofs.Sequents.{Smaller, smaller}
+use Rattle.calculus.proofs.Room.{reachable_room, reachable_premises}
 use Rattle.calculus.proofs.Trees.{alike_only}
 use Rattle.sequent.specs.declared.Placing.{Placing}
 use Rattle.sequent.specs.declared.Running.{Running}
@@ -22,7 +24,7 @@ use Rattle.sequent.specs.declared.Counted.{Counted}
 use Rattle.sequent.specs.declared.Reduction.{Reduction}
 use Rattle.calculus.specs.declared.Pair.{Pair}
 use Rattle.sequent.specs.Names.{first_of, second_of, formula_in, Known}
-use Rattle.sequent.specs.Rule.{rule_of, parts_on, placed, premises_of, sided, overfull_of}
+use Rattle.sequent.specs.Rule.{rule_of, parts_on, placed, premises_of, sided}
 use Rattle.sequent.specs.View.{view, count_of, mask_of, slot_of, start_of, name_at, named, sequent_of, bit_of, letters_of, Good}
 use Rattle.sequent.specs.Passes.{Builds}
 use Rattle.sequent.specs.Compounds.{first_in, Clear, FoundAt, Found, EqualAt, Paired, twins_of, compound_of, IsCompound, compound_at, rule_for, reduction_at, premises_at, premise_by, Reducible, Makes}
@@ -33,7 +35,7 @@ use Rattle.sequent.proofs.Letters.{masked_premise}
 use Rattle.sequent.proofs.Sets.{covered_premise}
 use Rattle.sequent.proofs.Twins.{held as names-held, slot_name as name-at-slot}
 use Rattle.sequent.proofs.Namings.{letter_named, same_name, Compounded, compound_named, rule_connective}
-use Rattle.sequent.proofs.Rules.{rule_premises, rule_full, size_named}
+use Rattle.sequent.proofs.Rules.{rule_premises, size_named}
 use Rattle.sequent.proofs.Placings.{nowhere}
 use Rattle.sequent.proofs.Restarts.{restarts}
 
@@ -93,9 +95,6 @@ module _ (T : List ℕ) (full : length T ≤ CONNECTIVES) (n : ℕ) (few : n ≤
 module _ (T items : List ℕ) (s : Running) (good : Good T items s) where
   pub held : (t : Side) → length (on_side t (view s items)) ≡ count_of t s
   held = names-held s items good.places good.room
-
-  pub size_held : size (view s items) ≡ s.left.count + s.right.count
-  size_held = omega (arith, ones (view s items).on_left, ones (view s items).on_right, held Left, held Right)
 
   pub masks_state : (t : Side) → mask_of t s ≡ state (letters (on_side t (sequent_of T items s)))
   masks_state Left = good.masks Left ∙ names_letters T good.nodes good.used good.few (view s items).on_left (good.known Left)
@@ -202,9 +201,6 @@ module _ (T items : List ℕ) (s : Running) (good : Good T items s) where
         pub premises_are : map premise_of (rule_for r) ≡ premises t i x (sequent_of T items s)
         premises_are = rule_premises (formula_in T) (view s items) t i (first_of r.node) (second_of r.node) x first_part second_part (rule_for r) rows
 
-        pub full_is : fold ANY (λ P. ltb ROOM (size P)) (premises t i x (sequent_of T items s)) ≡ overfull_of (rule_for r) (s.left.count + s.right.count)
-        full_is = rule_full (formula_in T) (view s items) t i (first_of r.node) (second_of r.node) x first_part second_part (rule_for r) rows inside ∙ ap (overfull_of (rule_for r)) size_held
-
         -- ---- a premise made
 
         module _ (p : Placing) (before new : List ℕ) (b : Counted Running) (builds : Builds t i p (first_of r.node) (second_of r.node) s items before new b) (small : size (premise_of p) ≤ ROOM) where
@@ -231,8 +227,11 @@ module _ (T items : List ℕ) (s : Running) (good : Good T items s) where
   -- ---- a reduction that can be made
 
   module _ (r : Reduction) (can : Reducible T items s r) where
+    there : Due (sequent_of T items s) r.place.side r.place.at (compound_at T r.place.side r.place.at (view s items))
+    there = stands r.place.side r.place.at can.inside can.compound
+
     fewer : Each (λ P. 1 + c P ≤ c (sequent_of T items s)) (premises_at T items s r)
-    fewer = go (premises_at T items s r) (smaller r.place.side r.place.at (compound_at T r.place.side r.place.at (view s items)) (sequent_of T items s) (stands r.place.side r.place.at can.inside can.compound))
+    fewer = go (premises_at T items s r) (smaller r.place.side r.place.at (compound_at T r.place.side r.place.at (view s items)) (sequent_of T items s) there)
       where
         go : (Ps : List Sequent) → Each (Smaller (sequent_of T items s)) Ps → Each (λ P. 1 + c P ≤ c (sequent_of T items s)) Ps
         go [] h = tt
@@ -261,32 +260,37 @@ module _ (T items : List ℕ) (s : Running) (good : Good T items s) where
       each_made : (Q : Sequent → Type 0) → Each Q (premises_at T items s r) → Each (λ p. Q (premise_by T items s r p)) rule
       each_made Q h = each_unmap (premise_by T items s r) Q rule (subst (Each Q) (sym premises_made) h)
 
-      -- each can be made
-      pub makes_each : Each (Makes T items s r) rule
-      makes_each =
-          each (λ p. (size (premise_by T items s r p) ≤ ROOM) × (1 + c (premise_by T items s r p) ≤ c (sequent_of T items s))) (Makes T items s r)
-          (λ p h. record { good = good; can = can; small = h.0; fewer = h.1 }) rule
-          (each_and (λ p. size (premise_by T items s r p) ≤ ROOM) (λ p. 1 + c (premise_by T items s r p) ≤ c (sequent_of T items s)) rule
-          (each_made (λ P. size P ≤ ROOM) can.fits) (each_made (λ P. 1 + c P ≤ c (sequent_of T items s)) fewer))
+      module _ (reached : Reachable (sequent_of T items s)) where
+        -- each can be made
+        pub makes_each : Each (Makes T items s r) rule
+        makes_each =
+            each (λ p. Reachable (premise_by T items s r p) × (1 + c (premise_by T items s r p) ≤ c (sequent_of T items s))) (Makes T items s r)
+            (λ p h. record { good = good; can = can; reached = h.0; fewer = h.1 }) rule
+            (each_and (λ p. Reachable (premise_by T items s r p)) (λ p. 1 + c (premise_by T items s r p) ≤ c (sequent_of T items s)) rule
+            (each_made Reachable (reachable_premises LIMITS r.place.side r.place.at (compound_at T r.place.side r.place.at (view s items)) (sequent_of T items s) there reached))
+            (each_made (λ P. 1 + c P ≤ c (sequent_of T items s)) fewer))
 
-      -- so can the next one of a loop over the rule
-      pub makes_next : (j : ℕ) → j < length rule → Makes T items s r (get_or rule j nowhere)
-      makes_next j h = each_at (Makes T items s r) rule j nowhere makes_each h
+        -- so can the next one of a loop over the rule
+        pub makes_next : (j : ℕ) → j < length rule → Makes T items s r (get_or rule j nowhere)
+        makes_next j h = each_at (Makes T items s r) rule j nowhere makes_each h
 
 -- ---- a premise made
 
 module _ (T items : List ℕ) (s : Running) (r : Reduction) (p : Placing) (m : Makes T items s r p) where
+  pub made_small : size (premise_by T items s r p) ≤ ROOM
+  made_small = reachable_room LIMITS (premise_by T items s r p) m.reached
+
   -- what `premise` asks
   pub premise_asks : (r.place.at < count_of r.place.side s) × (s.left.count + s.right.count ≤ ROOM) × (size (premise r.place.side r.place.at (view s items) (placed p (first_of r.node) (second_of r.node))) ≤ ROOM)
   premise_asks =
-      (m.can.inside, m.good.room, omega (arith, m.small, size_named (formula_in T) (premise r.place.side r.place.at (view s items) (placed p (first_of r.node) (second_of r.node)))))
+      (m.can.inside, m.good.room, omega (arith, made_small, size_named (formula_in T) (premise r.place.side r.place.at (view s items) (placed p (first_of r.node) (second_of r.node)))))
 
   module _ (before new : List ℕ) (b : Counted Running) (builds : Builds r.place.side r.place.at p (first_of r.node) (second_of r.node) s items before new b) where
     pub made_is : sequent_of T new b.value ≡ premise_by T items s r p
     made_is = ap (named (formula_in T)) builds.held
 
     pub made_good : Good T new b.value
-    made_good = premise_good T items s m.good r.place.side r.place.at m.can.inside m.can.compound r m.can.exact p before new b builds m.small
+    made_good = premise_good T items s m.good r.place.side r.place.at m.can.inside m.can.compound r m.can.exact p before new b builds made_small
 
     pub made_stores : b.stores ≡ size (premise_by T items s r p)
     made_stores = builds.stores ∙ sym (size_named (formula_in T) (premise r.place.side r.place.at (view s items) (placed p (first_of r.node) (second_of r.node))))

@@ -1,6 +1,6 @@
 -- Lists: parts of them, places that make way, elements.
 -- Assumes nothing.
-use Rattle.std.proofs.Common.{◌≡◌, refl, ap, Bool, true, false, List, [], ◌∷◌, ◌++◌, map, ℕ, zero, suc, ◌+◌, ◌<◌, arith, length, take, drop, get_or, length-append, length-take, length-drop}
+use Rattle.std.proofs.Common.{◌≡◌, refl, ap, Bool, true, false, List, [], ◌∷◌, ◌++◌, map, ℕ, zero, suc, ◌<◌, arith, length, get_or}
 use Rattle.std.proofs.Math.Option.{some, none-ne-some}
 use mathlib.Core.List.{map-append}
 use Rattle.std.proofs.Math.ListN.{get_elem?}
@@ -38,10 +38,6 @@ map_splice f zero new [] = map-append f new []
 map_splice f zero new (x ∷ xs) = map-append f new xs
 map_splice f (suc i) new [] = map-append f new []
 map_splice {X} {Y} f (suc i) new (x ∷ xs) = ap (λ (l : List Y). f x ∷ l) (map_splice f i new xs)
-
-pub splice_size : {X : Type 0} (xs new : List X) (i : ℕ) → i < length xs → length (splice i new xs) + 1 ≡ length xs + length new
-splice_size xs new i h =
-    omega (arith, length-append (take i xs) (new ++ drop (suc i) xs), length-append new (drop (suc i) xs), length-take i xs, length-drop (suc i) xs)
 
 -- ---- a fact of each element
 

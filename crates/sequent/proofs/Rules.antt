@@ -1,21 +1,19 @@
 -- The premises that a rule's placings make of names stand for the premises of document 01, and the stores made for them are the
 -- formulas of these.
 -- Assumes nothing.
-use Rattle.std.proofs.Common.{◌≡◌, refl, sym, ap, ◌∙◌, Bool, true, false, List, [], ◌∷◌, ◌++◌, map, ℕ, ◌+◌, ◌<◌, arith, ltb, length, length-append, lt-ltb, le-ltb}
+use Rattle.std.proofs.Common.{◌≡◌, refl, sym, ap, ◌∙◌, Bool, true, false, List, [], ◌∷◌, ◌++◌, map, ℕ, arith}
 use Rattle.std.proofs.Math.Path.{fun_ext}
 use mathlib.Core.List.{map-append}
-use Rattle.std.proofs.Math.Decide.{dec_lt}
 use Rattle.std.proofs.Math.ListN.{length-map}
 use Rattle.calculus.specs.declared.Side.{Side}
 use Rattle.calculus.specs.declared.Side.TheVariants.{Left, Right}
-use Rattle.calculus.specs.Fold.{fold, ANY, SUM}
-use Rattle.calculus.specs.Limits.{ROOM}
-use Rattle.calculus.specs.Syntax.{Formula, Compound, Seq, on_side, size}
+use Rattle.calculus.specs.Fold.{fold, SUM}
+use Rattle.calculus.specs.Syntax.{Formula, Compound, Seq, size}
 use Rattle.calculus.specs.Table.{Part, F, G, Put, L, R, table, fill, on, splice, premise, premises}
 use Rattle.calculus.proofs.Folds.{ones, fold_map}
 use Rattle.sequent.specs.declared.Placing.{Placing}
-use Rattle.sequent.specs.Rule.{goes_to, keep, parts_on, premise_of, premises_of, sided, placed, overfull_of}
-use Rattle.sequent.proofs.Lists.{on_left, on_right, map_splice, splice_size}
+use Rattle.sequent.specs.Rule.{goes_to, keep, parts_on, premise_of, premises_of, sided, placed}
+use Rattle.sequent.proofs.Lists.{on_left, on_right, map_splice}
 use Rattle.sequent.specs.View.{named}
 
 -- ---- a premise by its row
@@ -66,24 +64,7 @@ module _ {X : Type 0} (i : ℕ) (x y : X) (S : Seq X) where
     row_map Left P = rw (map_splice φ i (map (part x y) P.on_left) S.on_left, map-append φ S.on_right (map (part x y) P.on_right), part_map P.on_left, part_map P.on_right)
     row_map Right P = rw (map_splice φ i (map (part x y) P.on_right) S.on_right, map-append φ S.on_left (map (part x y) P.on_left), part_map P.on_left, part_map P.on_right)
 
-  row_size : (t : Side) (P : Seq Part) → i < length (on_side t S) → size (row t i x y S P) + 1 ≡ size S + size P
-  row_size Left P h =
-      omega (arith, ones (splice i (map (part x y) P.on_left) S.on_left), ones (S.on_right ++ map (part x y) P.on_right), ones S.on_left, ones S.on_right, ones P.on_left, ones P.on_right, splice_size S.on_left (map (part x y) P.on_left) i h, length-append S.on_right (map (part x y) P.on_right), length-map P.on_left (part x y), length-map P.on_right (part x y))
-  row_size Right P h =
-      omega (arith, ones (splice i (map (part x y) P.on_right) S.on_right), ones (S.on_left ++ map (part x y) P.on_left), ones S.on_left, ones S.on_right, ones P.on_left, ones P.on_right, splice_size S.on_right (map (part x y) P.on_right) i h, length-append S.on_left (map (part x y) P.on_left), length-map P.on_left (part x y), length-map P.on_right (part x y))
-
-  -- a premise holds the parts, and one formula less
-  pub placed_size : (t : Side) (p : Placing) → i < length (on_side t S) → size (premise t i S (placed p x y)) + 1 ≡ size S + size (premise_of p)
-  placed_size t p h = ap (λ (P : Seq X). size P + 1) (row_placed t p) ∙ row_size t (premise_of p) h
-
 -- ---- a rule
-
-one_more : (a b : ℕ) → a + 1 ≡ b → ltb ROOM a ≡ ltb (ROOM + 1) b
-one_more a b e = go (dec_lt ROOM a)
-  where
-    go : Dec (ROOM < a) → ltb ROOM a ≡ ltb (ROOM + 1) b
-    go (yes h) = rw (lt-ltb ROOM a h, lt-ltb (ROOM + 1) b (omega arith))
-    go (no h) = rw (le-ltb ROOM a (omega arith), le-ltb (ROOM + 1) b (omega arith))
 
 pub size_named : {X Y : Type 0} (φ : X → Y) (S : Seq X) → size (named φ S) ≡ size S
 size_named φ S =
@@ -102,15 +83,6 @@ module _ (φ : ℕ → Formula) (S : Seq ℕ) (t : Side) (i : ℕ) (f g : ℕ) (
     pub rule_premises : map (λ p. named φ (premise t i S (placed p f g))) r ≡ premises t i x (named φ S)
     rule_premises =
         rows_named r ∙ ap (map (row t i x.f x.g (named φ S))) rows ∙ sym (rows_filled (table x.connective t))
-
-    -- "if a premise of the due reduction would hold more than 80 formulas"
-    pub rule_full : i < length (on_side t S) → fold ANY (λ P. ltb ROOM (size P)) (premises t i x (named φ S)) ≡ overfull_of r (size S)
-    rule_full h =
-        ap (fold ANY (λ P. ltb ROOM (size P))) (sym rule_premises)
-        ∙ fold_map ANY (λ P. ltb ROOM (size P)) (λ p. named φ (premise t i S (placed p f g))) r ∙ ap (λ (w : Placing → Bool). fold ANY w r) (fun_ext over)
-      where
-        over : (p : Placing) → ltb ROOM (size (named φ (premise t i S (placed p f g)))) ≡ ltb (ROOM + 1) (size S + size (premise_of p))
-        over p = one_more (size (named φ (premise t i S (placed p f g)))) (size S + size (premise_of p)) (omega (arith, size_named φ (premise t i S (placed p f g)), placed_size i f g S t p h))
 
     -- the stores of all premises of a rule
     pub rule_stores : fold SUM (λ p. size (premise t i S (placed p f g))) r ≡ fold SUM size (premises t i x (named φ S))

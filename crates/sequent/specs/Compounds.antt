@@ -2,10 +2,11 @@
 use Rattle.std.specs.Prelude.{◌≡◌, Option, Some, None, List, [], ◌∷◌, ℕ, suc, ◌+◌, ◌%◌, ◌≤◌, ◌<◌, ltb, length, take, get_or}
 use Rattle.calculus.specs.declared.Side.{Side}
 use Rattle.calculus.specs.declared.Side.TheVariants.{Left, Right}
-use Rattle.calculus.specs.Fold.{Each, choose}
-use Rattle.calculus.specs.Limits.{LETTERS, ROOM}
-use Rattle.calculus.specs.Syntax.{NOT, two, Formula, letter, neg, join, Compound, whole, Seq, Sequent, c, size}
+use Rattle.calculus.specs.Fold.{choose}
+use Rattle.calculus.specs.Limits.{LETTERS}
+use Rattle.calculus.specs.Syntax.{NOT, two, Formula, letter, neg, join, Compound, whole, Seq, Sequent, c}
 use Rattle.calculus.specs.Table.{premise, premises}
+use Rattle.calculus.specs.Reached.{Reachable}
 use Rattle.calculus.specs.Tree.{Twins, unlike, alike}
 use Rattle.sequent.specs.declared.Placing.{Placing}
 use Rattle.sequent.specs.declared.Running.{Running}
@@ -95,16 +96,15 @@ premises_at T items s r = premises r.place.side r.place.at (compound_at T r.plac
 abbrev pub premise_by : List ℕ → List ℕ → Running → Reduction → Placing → Sequent
 premise_by T items s r p = named (formula_in T) (premise r.place.side r.place.at (view s items) (placed p (first_of r.node) (second_of r.node)))
 
--- a reduction that can be made: a compound stands at its place, and no premise is too long
+-- a reduction that can be made: a compound stands at its place
 pub record Reducible (T items : List ℕ) (s : Running) (r : Reduction) : Type 0 where
   pub inside : r.place.at < count_of r.place.side s
   pub compound : LETTERS ≤ name_at r.place.side r.place.at (view s items)
   pub exact : r ≡ reduction_at T r.place.side r.place.at (view s items)
-  pub fits : Each (λ P. size P ≤ ROOM) (premises_at T items s r)
 
--- a premise of it can be made, and has less connectives
+-- a premise of it can be made: it is reached too, and has less connectives
 pub record Makes (T items : List ℕ) (s : Running) (r : Reduction) (p : Placing) : Type 0 where
   pub good : Good T items s
   pub can : Reducible T items s r
-  pub small : size (premise_by T items s r p) ≤ ROOM
+  pub reached : Reachable (premise_by T items s r p)
   pub fewer : 1 + c (premise_by T items s r p) ≤ c (sequent_of T items s)

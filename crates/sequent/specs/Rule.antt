@@ -1,10 +1,8 @@
 -- What a row of the constant table says.
-use Rattle.std.specs.Prelude.{Bool, true, false, Option, Some, None, List, [], ◌∷◌, ◌++◌, map, ℕ, ◌+◌, ltb}
+use Rattle.std.specs.Prelude.{Bool, true, false, Option, Some, None, List, [], ◌∷◌, ◌++◌, map}
 use Rattle.calculus.specs.declared.Side.{Side}
 use Rattle.calculus.specs.declared.Side.TheVariants.{Left, Right}
-use Rattle.calculus.specs.Fold.{fold, ANY}
-use Rattle.calculus.specs.Limits.{ROOM}
-use Rattle.calculus.specs.Syntax.{Connective, Seq, size}
+use Rattle.calculus.specs.Syntax.{Connective, Seq}
 use Rattle.calculus.specs.Table.{Part, F, G, Put, L, R, table, on}
 use Rattle.sequent.specs.declared.Placing.{Placing}
 
@@ -56,7 +54,3 @@ sided ps = record { on_left = on Left ps; on_right = on Right ps }
 -- a premise's parts, each on its side
 abbrev pub placed : {X : Type 0} → Placing → X → X → List (Put X)
 placed p x y = map (λ z. L z) (parts_on Left p x y) ++ map (λ z. R z) (parts_on Right p x y)
-
--- whether a premise of a rule would hold more than there is room for, n formulas being held
-abbrev pub overfull_of : List Placing → ℕ → Bool
-overfull_of r n = fold ANY (λ p. ltb (ROOM + 1) (n + size (premise_of p))) r

@@ -9,12 +9,12 @@ use lib.ListN.{length, take, drop, get_or, length-append, length-drop}
 use lib.Seq.{sets, sets-eq, length-sets}
 use Rattle.calculus.specs.declared.Side.{Side}
 use Rattle.calculus.specs.declared.Kind.{Kind}
-use Rattle.calculus.specs.declared.Kind.TheVariants.{Theorem, Refuted, Spent, Full}
+use Rattle.calculus.specs.declared.Kind.TheVariants.{Theorem, Refuted, Spent}
 use Rattle.calculus.specs.Fold.{fold, SUM, Each}
 use Rattle.calculus.specs.Limits.{LETTERS, ROOM}
 use Rattle.calculus.specs.Syntax.{Compound, Sequent, size}
 use Rattle.calculus.specs.Table.{premises}
-use Rattle.calculus.specs.Tree.{letters, state, Way, lettered, Step, closed, opened, full, reduced, step, Event, reduce, Tree, follow, chain, under, grow, tree, Inner, is_closed, is_open, is_full, is_spent, is_due, afford, inner}
+use Rattle.calculus.specs.Tree.{letters, state, Way, lettered, Step, closed, opened, reduced, step, Event, reduce, Tree, follow, chain, under, grow, tree, Inner, is_closed, is_open, is_spent, is_due, afford, inner}
 use Rattle.calculus.specs.Derivation.{REDUCE, order_code, written_all, derivation}
 use Rattle.calculus.proofs.Buffers.{sets_append, sets_start}
 use Rattle.calculus.proofs.Derivations.{written_all_append}
@@ -26,12 +26,12 @@ use Rattle.sequent.specs.View.{view, sequent_of}
 use Rattle.sequent.specs.Compounds.{FoundAt, compound_at, rule_for, premises_at, premise_by, Makes}
 use Rattle.sequent.proofs.Lists.{each_unmap}
 use Rattle.sequent.proofs.Placings.{nowhere, next, next_ends, Summed, sum_starts, sum_goes, sum_ends}
-use Rattle.sequent.proofs.Goods.{premises_made, few, makes_next}
+use Rattle.sequent.proofs.Goods.{premises_made, few, makes_next, made_small}
 use Rattle.calculus.proofs.Folds.{each_at}
 use Rattle.std.proofs.lemmas.List.{append_assoc, take_rest, drop-drop, drop_all}
 use Rattle.sequent.specs.declared.Reduction.{Reduction}
 use Rattle.prover.specs.declared.Finding.{Finding}
-use Rattle.prover.specs.declared.Finding.TheVariants.{Closed, Paired, Open, Full as FullFound, Spent as SpentFound, Reduce}
+use Rattle.prover.specs.declared.Finding.TheVariants.{Closed, Paired, Open, Spent as SpentFound, Reduce}
 use Rattle.prover.specs.Inner.{inner_of, Stepped, First}
 use Rattle.calculus.specs.declared.Pair.{Pair}
 use Rattle.sequent.specs.declared.Counted.{Counted}
@@ -59,13 +59,11 @@ part_sets l new i xs h e =
 closed_step : (t : Step) (w : Way) → afford 1 t ≡ is_closed w → t ≡ closed w
 closed_step (closed v) w e = cc
 closed_step (opened σ) w e = cc
-closed_step full w e = cc
 closed_step (reduced s i x) w e = cc
 
 due_step : (t : Step) (s : Side) (i : ℕ) (x : Compound) → afford 1 t ≡ is_due s i x → t ≡ reduced s i x
 due_step (closed j) s i x e = cc
 due_step (opened σ) s i x e = cc
-due_step full s i x e = cc
 due_step (reduced u j y) s i x e = cc
 
 -- The letter that closes a sequent is within the limit.
@@ -74,11 +72,10 @@ closed_small S k e h =
     let r = rw (closed_step (step S) (lettered k) (sym e)) at (right_step S) in
     bit_below LETTERS k (state (letters S.on_left)) h (bit_state k (letters S.on_left) ∙ r.0)
 
--- An open sequent, or a full one, is no theorem.
+-- An open sequent is no theorem.
 abbrev pub Goes : Inner → Type 0
 Goes (is_closed w) = Unit {0}
 Goes (is_open σ) = ⊥
-Goes is_full = ⊥
 Goes is_spent = ⊥
 Goes (is_due s i x) = Unit {0}
 
@@ -88,7 +85,6 @@ theorem_goes S h = go (step S) (ap (λ (t : Tree). t.end) (sym (tree_grows S)) �
     go : (t : Step) → (grow tree S t).end ≡ Theorem → Goes (afford 1 t)
     go (closed w) e = tt
     go (opened σ) e = let z : ◌≡◌ {A = ℕ} 0 1 = cc in omega arith
-    go full e = let z : ◌≡◌ {A = ℕ} 0 1 = cc in omega arith
     go (reduced s i x) e = tt
 
 -- A theorem's step is closed or reduced.
@@ -100,7 +96,6 @@ no_other {T} {items} {s} {f} w h = go f (subst Goes (sym w.inner) (theorem_goes 
     go (Closed k) g p q u = p k refl
     go (Paired x) g p q u = q x refl
     go (Open σ) g p q u = g
-    go FullFound g p q u = g
     go SpentFound g p q u = g
     go (Reduce r) g p q u = u r refl
 
@@ -111,7 +106,6 @@ follow_theorem : (es : List Event) (e : Kind) (u : Tree) → (follow es e u).end
 follow_theorem es Theorem u h = (refl, h, refl)
 follow_theorem es (Refuted σ) u h = let z : ◌≡◌ {A = ℕ} 0 1 = cc in absurd (omega arith)
 follow_theorem es Spent u h = let z : ◌≡◌ {A = ℕ} 0 1 = cc in absurd (omega arith)
-follow_theorem es Full u h = let z : ◌≡◌ {A = ℕ} 0 1 = cc in absurd (omega arith)
 
 -- where the premises come to a theorem, each is one, and what is written is their derivations
 chain_theorem : (Ps : List Sequent) → (chain tree Ps).end ≡ Theorem → Each Provable Ps × (written_all (chain tree Ps).events ≡ derivations Ps)
@@ -201,18 +195,21 @@ module _ {T items : List ℕ} {s : Running} {r : Reduction} {rule : List Placing
     -- the next premise can be made, it is a theorem, and there is room for its derivation
     pub ahead_next : Makes T items s r (get_or rule j nowhere) × FoundAt (view s items) r.place.side r.place.at × Provable next_premise × (length (derivation next_premise) ≤ length (take (length new - bytes) (drop bytes new)))
     ahead_next = (
-      makes_next T items s a.reduction.good r a.reduction.can rule a.rows j h,
+      makes_next T items s a.reduction.good r a.reduction.can rule a.rows a.reduction.reached j h,
       a.reduction.found,
       each_at (λ p. Provable (premise_by T items s r p)) rule j nowhere (each_unmap (premise_by T items s r) Provable rule (subst (Each Provable) (sym premises_are) a.provable)) h,
       part_long new bytes (length (derivation next_premise)) ahead_within,
     )
+
+    next_small : size next_premise ≤ ROOM
+    next_small = made_small T items s r (get_or rule j nowhere) ahead_next.0
 
     module _ {e : Counted ℕ} {last : List ℕ} (w : Emits (derivation next_premise) (size next_premise) (take (length new - bytes) (drop bytes new)) last e) where
       -- what is counted fits
       pub ahead_fits : (bytes + e.value ≤ length old) × (n + e.stores ≤ ROOM * 2)
       ahead_fits =
           let k = few T items s a.reduction.good r a.reduction.can rule a.rows in
-          (omega (arith, ahead_within, w.long, a.long), omega (arith, w.stores, ahead_next.0.small, a.sum.small))
+          (omega (arith, ahead_within, w.long, a.long), omega (arith, w.stores, next_small, a.sum.small))
 
       pub ahead_goes : Ahead T items s r rule old (j + 1) (bytes + e.value) (n + e.stores) (take bytes new ++ (last ++ drop (length new - bytes) (drop bytes new)))
       ahead_goes =
@@ -223,7 +220,7 @@ module _ {T items : List ℕ} {s : Running} {r : Reduction} {rule : List Placing
             rows = a.rows;
             provable = a.provable;
             room = a.room;
-            sum = sum_goes (premise_by T items s r) rule j n a.sum h e.stores w.stores ahead_next.0.small;
+            sum = sum_goes (premise_by T items s r) rule j n a.sum h e.stores w.stores next_small;
             place = omega (arith, a.place, w.long, ap length ahead_bytes, length-append d rest);
             stored = ap (λ (i : ℕ). sets (take bytes new ++ (last ++ drop (length new - bytes) (drop bytes new))) (bytes + i) rest) w.long ∙ ap (λ (l : List ℕ). sets l (bytes + length d) rest) v ∙ sets_append new bytes d rest
                 ∙ ap (sets new bytes) (sym ahead_bytes) ∙ a.stored;

@@ -1,7 +1,7 @@
 -- The answer of the call that writes a derivation, by document 01's numbers and values, and what the buffer holds.
 use Rattle.std.specs.Prelude.{◌≡◌, List, [], ◌∷◌, ℕ, take, Result, Ok, Err, IfOk}
 use Rattle.calculus.specs.declared.Kind.{Kind}
-use Rattle.calculus.specs.declared.Kind.TheVariants.{Theorem, Refuted, Spent, Full}
+use Rattle.calculus.specs.declared.Kind.TheVariants.{Theorem, Refuted, Spent}
 use Rattle.calculus.specs.declared.Verdict.{Verdict}
 use Rattle.calculus.specs.Limits.{NOT_PROVED, NO_SPACE}
 use Rattle.calculus.specs.Bytes.{question}
@@ -16,12 +16,11 @@ use Rattle.writer.specs.declared.Written.{Written}
 use Rattle.writer.specs.declared.NotWritten.{NotWritten}
 use Rattle.writer.specs.declared.NotWritten.TheVariants.{Refused, NotProved, NoSpace}
 
--- 8, 9 and 10 by the verdict's kind; a theorem is not among them
+-- 9 and 10 by the verdict's kind; a theorem is not among them
 abbrev pub unproved : Kind → ℕ → ℕ → Reply
 unproved Theorem r k = verdict_reply Theorem r k
 unproved (Refuted σ) r k = record { number = NOT_PROVED; values = σ ∷ r ∷ k ∷ [] }
 unproved Spent r k = verdict_reply Spent r k
-unproved Full r k = verdict_reply Full r k
 
 abbrev pub answer_of : Result Written NotWritten → Reply
 answer_of (Ok w) = record { number = 0; values = w.length ∷ w.verdict.reductions ∷ w.verdict.closings ∷ [] }

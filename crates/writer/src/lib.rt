@@ -6,6 +6,7 @@ ghost use Rattle.std.proofs.lemmas.List.Edits.{sets};
 ghost use Rattle.calculus.specs.Fold.{fold, SUM, Each};
 ghost use Rattle.calculus.specs.Syntax.{size};
 ghost use Rattle.calculus.specs.Bytes.{question};
+ghost use Rattle.calculus.specs.Reached.{Reachable};
 ghost use Rattle.calculus.specs.Derivation.{PAIR, order_code, derivation};
 ghost use Rattle.calculus.specs.Reply.{derive};
 ghost use Rattle.calculus.specs.Tree.{tree};
@@ -34,7 +35,7 @@ pub struct Written {
 #[derive(Clone, Copy)]
 pub enum NotWritten {
     Refused(Refusal),
-    // Spent, full or refuted: the verdict.
+    // Spent or refuted: the verdict.
     NotProved(Verdict),
     // The length needed.
     NoSpace(u64),
@@ -73,6 +74,7 @@ fn put_pair(out: &mut [u8], left: u8, right: u8) -> usize
 fn emit(t: Names<'_>, s: Running, from: usize, out: &mut [u8]) -> usize
     requires { Good t.nodes.now t.items.now s
         × Clear from t.items.now s
+        × Reachable (sequent_of t.nodes.now t.items.now s)
         × Provable (sequent_of t.nodes.now t.items.now s)
         × (length (derivation (sequent_of t.nodes.now t.items.now s)) ≤ length out.old) }
     ensures { (result ≡ length (derivation (sequent_of t.entry.nodes.now t.entry.items.now s)))

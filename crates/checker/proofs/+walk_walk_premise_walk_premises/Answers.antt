@@ -4,8 +4,9 @@ use Rattle.calculus.specs.Syntax.{Sequent, c as connectives}
 use Rattle.sequent.specs.View.{view, sequent_of}
 use Rattle.sequent.specs.Compounds.{premise_by, compound_at}
 use Rattle.sequent.proofs.Goods.{makes_next, premise_asks, made_is, made_good, made_stores, command_made}
-use Rattle.checker.specs.Walks.{Roomy, Walks}
-use Rattle.checker.proofs.Walking.{cut_short, walk_stopped, walk_closed, walk_paired, walk_reduced, ahead_starts, roomy_next, stores_fit, ahead_goes, ahead_stops, ahead_ends}
+use Rattle.calculus.specs.Reached.{Reachable}
+use Rattle.checker.specs.Walks.{Walks}
+use Rattle.checker.proofs.Walking.{cut_short, walk_stopped, walk_closed, walk_paired, walk_reduced, ahead_starts, stores_fit, ahead_goes, ahead_stops, ahead_ends}
 use Rattle.checker.proofs.+walk_walk_premise_walk_premises.Goals as goal
 
 -- ---- one command
@@ -53,7 +54,7 @@ walk_premise-walk-requires t c =
     let m = c.premise-made in
     let e = made_is a.t.nodes.now a.t.items.now a.s a.r a.p h.0 _ m.new.new m.result m.ensures in (
       omega (arith, c.decreases, ap connectives e, h.0.fewer),
-      (made_good a.t.nodes.now a.t.items.now a.s a.r a.p h.0 _ m.new.new m.result m.ensures, subst Roomy (sym e) h.1, h.2),
+      (made_good a.t.nodes.now a.t.items.now a.s a.r a.p h.0 _ m.new.new m.result m.ensures, subst Reachable (sym e) h.0.reached, h.1),
     )
 
 pub walk_premise-returns : goal.walk_premise-returns
@@ -87,8 +88,7 @@ walk_premises-walk_premise-m-requires t c =
     let u = c.rule-rule in (
       omega (arith, c.decreases),
       (
-        makes_next a.t.nodes.now a.t.items.now a.s h.0 a.r h.2 u.result.now u.ensures l.p-index c.loop-p-test.true,
-        roomy_next h.0 h.2 u.ensures h.1 l.p-index c.loop-p-test.true,
+        makes_next a.t.nodes.now a.t.items.now a.s h.0 a.r h.2 u.result.now u.ensures h.1 l.p-index c.loop-p-test.true,
         omega (arith, l.invariant.inside),
       ),
     )
@@ -96,17 +96,17 @@ walk_premises-walk_premise-m-requires t c =
 pub walk_premises-overflow_add-stores : goal.walk_premises-overflow_add-stores
 walk_premises-overflow_add-stores t c =
     let h = c.requires in
-    omega (arith, stores_fit h.0 h.2 c.rule-rule.ensures c.loop-p.invariant c.loop-p-test.true c.walk_premise-m.result c.walk_premise-m.ensures)
+    omega (arith, stores_fit h.0 h.2 c.rule-rule.ensures c.loop-p.invariant h.1 c.loop-p-test.true c.walk_premise-m.result c.walk_premise-m.ensures)
 
 pub walk_premises-returns-in-Err : goal.walk_premises-returns-in-Err
 walk_premises-returns-in-Err t c =
     let h = c.requires in
-    ahead_stops h.0 h.2 c.rule-rule.ensures c.loop-p.invariant c.loop-p-test.true c.walk_premise-m.result c.walk_premise-m.ensures c.in-Err.f c.in-Err.is
+    ahead_stops h.0 h.2 c.rule-rule.ensures c.loop-p.invariant h.1 c.loop-p-test.true c.walk_premise-m.result c.walk_premise-m.ensures c.in-Err.f c.in-Err.is
 
 pub walk_premises-loop-p-preserved : goal.walk_premises-loop-p-preserved
 walk_premises-loop-p-preserved t c =
     let h = c.requires in
-    ahead_goes h.0 h.2 c.rule-rule.ensures c.loop-p.invariant c.loop-p-test.true c.walk_premise-m.result c.walk_premise-m.ensures c.in-Ok.e c.in-Ok.is
+    ahead_goes h.0 h.2 c.rule-rule.ensures c.loop-p.invariant h.1 c.loop-p-test.true c.walk_premise-m.result c.walk_premise-m.ensures c.in-Ok.e c.in-Ok.is
 
 pub walk_premises-returns : goal.walk_premises-returns
 walk_premises-returns t c = let h = c.requires in ahead_ends h.0 h.2 c.rule-rule.ensures c.loop-p.invariant c.loop-p-test.false

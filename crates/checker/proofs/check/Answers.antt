@@ -2,12 +2,12 @@
 use Rattle.std.proofs.Common.{◌≡◌, arith, rules}
 use Rattle.std.specs.Prelude.{Err}
 use Rattle.checker.specs.declared.NotPassed.TheVariants.{Faulty}
-use Rattle.checker.proofs.Answers.{root_roomy, answer_faulty, answer_after, answer_passes}
+use Rattle.checker.proofs.Answers.{root_reached, answer_faulty, answer_after, answer_passes}
 use Rattle.checker.proofs.check.Goals as goal
 
 pub walk-requires : goal.walk-requires
 walk-requires c =
-    let h = root_roomy c.in_ok-asked.asked.bytes.now c.in_ok-asked.asked.accepted c.root-s.ensures c.names.ensures in
+    let h = root_reached c.in_ok-asked.asked.bytes.now c.in_ok-asked.asked.accepted c.root-s.ensures c.names.ensures in
     (h.0, h.1, omega arith)
 
 pub returns-in_err-end-clause-exactly : goal.returns-in_err-end-clause-exactly

@@ -13,17 +13,16 @@ use Rattle.prover.proofs.+reduce_run_run_premise.Goals as goal
 pub reduce-rule-rule-requires : goal.reduce-rule-rule-requires
 reduce-rule-rule-requires t c =
     let a = c.args in
-    let h = c.requires.0 in
+    let h = c.requires in
     ((compound_at a.t.nodes.now a.r.place.side a.r.place.at (view a.s a.t.items.now)).connective, sym (command_made a.t.nodes.now a.t.items.now a.s h.good a.r h.can))
 
 pub reduce-loop-p-init : goal.reduce-loop-p-init
 reduce-loop-p-init t c =
-    rw c.ended-o.ensures (ahead_starts c.requires.0 c.rule-rule.ensures c.requires.1 c.args.left)
+    rw c.ended-o.ensures (ahead_starts c.requires c.rule-rule.ensures c.args.left)
 
 pub reduce-run_premise-m-requires : goal.reduce-run_premise-m-requires
 reduce-run_premise-m-requires t c =
-    let h = c.requires in
-    (omega (arith, c.decreases), (ahead_makes c.loop-p.invariant c.loop-p-test.true, h.0.found, h.1))
+    (omega (arith, c.decreases), (ahead_makes c.loop-p.invariant c.loop-p-test.true, c.requires.found))
 
 pub reduce-overflow_add-stores : goal.reduce-overflow_add-stores
 reduce-overflow_add-stores t c = omega (arith, ahead_fits c.loop-p.invariant c.loop-p-test.true c.run_premise-m.ensures)
@@ -45,6 +44,9 @@ reduce-returns-in_default t c = ahead_stops c.loop-p.invariant c.loop-p-test.tru
 
 -- ---- the run
 
+pub run-returns-in-Spent : goal.run-returns-in-Spent
+run-returns-in-Spent t c = c.ended-in-Spent.ensures ∙ rw c.in-Spent.is at (answered c.step.ensures)
+
 pub run-returns-in-Reduce : goal.run-returns-in-Reduce
 run-returns-in-Reduce t c = c.reduce.ensures.outcome ∙ rw c.in-Reduce.is at (answered c.step.ensures)
 
@@ -59,8 +61,7 @@ pub run_premise-run-requires : goal.run_premise-run-requires
 run_premise-run-requires t c =
     let h = c.requires in
     let w = made h.0 h.1 c.premise-made.ensures in
-    let e = ap connectives_of w.is in
-    (omega (arith, c.decreases, e, h.0.fewer), (w.good, rw c.start.ensures w.clear, omega (arith, e, h.0.fewer, h.2)))
+    (omega (arith, c.decreases, ap connectives_of w.is, h.0.fewer), (w.good, rw c.start.ensures w.clear, rw w.is h.0.reached))
 
 pub run_premise-returns : goal.run_premise-returns
 run_premise-returns t c =

@@ -36,13 +36,13 @@ emit-overflow_cast-r t c =
     omega (arith, place_small a.t.nodes.now a.t.items.now a.s c.requires.0 c.in-Reduce.r c.in-Reduce.ensures.ready.can)
 
 pub emit-put-n-requires : goal.emit-put-n-requires
-emit-put-n-requires t c = omega (arith, c.requires.3, due_long c.in-Reduce.ensures c.requires.2)
+emit-put-n-requires t c = omega (arith, c.requires.4, due_long c.in-Reduce.ensures c.requires.3)
 
 pub emit-slice_bounds-emit_premises-count : goal.emit-slice_bounds-emit_premises-count
-emit-slice_bounds-emit_premises-count t c = omega (arith, c.requires.3, due_long c.in-Reduce.ensures c.requires.2, c.put-n.ensures.0, c.put-n.auto.out)
+emit-slice_bounds-emit_premises-count t c = omega (arith, c.requires.4, due_long c.in-Reduce.ensures c.requires.3, c.put-n.ensures.0, c.put-n.auto.out)
 
 pub emit-slice_bounds-emit_premises-start : goal.emit-slice_bounds-emit_premises-start
-emit-slice_bounds-emit_premises-start t c = omega (arith, c.requires.3, due_long c.in-Reduce.ensures c.requires.2, c.put-n.ensures.0, c.put-n.auto.out)
+emit-slice_bounds-emit_premises-start t c = omega (arith, c.requires.4, due_long c.in-Reduce.ensures c.requires.3, c.put-n.ensures.0, c.put-n.auto.out)
 
 pub emit-emit_premises-requires : goal.emit-emit_premises-requires
 emit-emit_premises-requires t c =
@@ -51,14 +51,14 @@ emit-emit_premises-requires t c =
     let p = c.put-n in (
       omega (arith, c.decreases),
       (
-        record { good = h.0; found = w.ready.found; can = w.ready.can },
-        due_provable w h.2,
-        part_long p.new.out p.result _ (omega (arith, h.3, due_long w h.2, p.ensures.0, p.auto.out)),
+        record { good = h.0; found = w.ready.found; can = w.ready.can; reached = h.2 },
+        due_provable w h.3,
+        part_long p.new.out p.result _ (omega (arith, h.4, due_long w h.3, p.ensures.0, p.auto.out)),
       ),
     )
 
 pub emit-overflow_add-result : goal.emit-overflow_add-result
-emit-overflow_add-result t c = omega (arith, c.requires.3, due_long c.in-Reduce.ensures c.requires.2, c.put-n.ensures.0, c.emit_premises.ensures.long)
+emit-overflow_add-result t c = omega (arith, c.requires.4, due_long c.in-Reduce.ensures c.requires.3, c.put-n.ensures.0, c.emit_premises.ensures.long)
 
 pub emit-returns-in-Reduce : goal.emit-returns-in-Reduce
 emit-returns-in-Reduce t c =
@@ -68,12 +68,12 @@ emit-returns-in-Reduce t c =
     let w = c.in-Reduce.ensures in
     let p = c.put-n in
     let k = one_command c.connective.result _ (c.connective.ensures ∙ command_made a.t.nodes.now a.t.items.now a.s h.0 r w.ready.can) in
-    due_written w h.2 a.out.now h.3 _ (ap (λ (l : Connective). order_code (REDUCE r.place.side l)) k) p.result p.ensures.0 p.new.out p.ensures.1 c.emit_premises.ensures
+    due_written w h.3 a.out.now h.4 _ (ap (λ (l : Connective). order_code (REDUCE r.place.side l)) k) p.result p.ensures.0 p.new.out p.ensures.1 c.emit_premises.ensures
 
 pub emit-unreachable-requires : goal.emit-unreachable-requires
 emit-unreachable-requires t c =
     let o = c.in_default in
-    no_other c.step.ensures c.requires.2 o.not-Closed o.not-Paired o.not-Reduce
+    no_other c.step.ensures c.requires.3 o.not-Closed o.not-Paired o.not-Reduce
 
 -- ---- a premise, made and written
 
@@ -90,6 +90,7 @@ emit_premise-emit-requires t c =
       (
         w.good,
         rw c.start.ensures w.clear,
+        rw w.is h.0.reached,
         ap (λ (P : Sequent). (tree P).end) w.is ∙ h.2,
         omega (arith, ap (λ (P : Sequent). length (derivation P)) w.is, h.3),
       ),

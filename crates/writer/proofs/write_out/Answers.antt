@@ -4,7 +4,9 @@ use Rattle.calculus.specs.Bytes.{question}
 use Rattle.calculus.specs.Syntax.{Sequent}
 use Rattle.calculus.specs.Tree.{tree}
 use Rattle.calculus.specs.Derivation.{derivation}
+use Rattle.calculus.specs.Limits.{LIMITS}
 use Rattle.calculus.proofs.Readings.{accepted_question}
+use Rattle.calculus.proofs.Room.{question_reachable}
 use Rattle.calculus.specs.declared.Verdict.{Verdict}
 use Rattle.question.specs.declared.Question.{Question}
 use Rattle.writer.specs.Answers.{IsTheorem}
@@ -35,6 +37,7 @@ emit-requires c =
     rw (c.names.ensures.0, c.names.ensures.1) (
       r.0,
       record { inside = omega arith; letters = refl },
+      question_reachable LIMITS a.q.bytes.now a.q.accepted r.1,
       ap (λ (P : Sequent). (tree P).end) r.1 ∙ c.requires.proved,
       omega (arith, ap (λ (P : Sequent). length (derivation P)) r.1, long, c.if-buffer-length.false),
     )
