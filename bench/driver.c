@@ -161,7 +161,7 @@ static void check_damaged(const results *r, const question_set *set)
         uint32_t number = peer_value_decide(q.bytes, q.length, 1000, out);
         uint64_t scanned[4] = { 0 };
         uint32_t refusal = peer_scan(q.bytes, q.length, scanned);
-        if (refusal != (number < FULL ? number : 0) || (refusal && scanned[0] != out[0]))
+        if (refusal != (number <= LEFT_OVER ? number : 0) || (refusal && scanned[0] != out[0]))
             disagree("peer_scan", &q, 0, refusal, scanned, number, out);
         for (int k = 0; k < r->count; k++)
             if (r->implementations[k].agrees == TREE)

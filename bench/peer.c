@@ -22,9 +22,6 @@ typedef struct {
     bool refuted;
 } run;
 
-// By connective and side: by how many formulas a premise grows at most.
-static const uint8_t grows[7][2] = { [AND] = { 1, 0 }, [OR] = { 0, 1 }, [IMPLIES] = { 0, 1 }, [EQUIV] = { 1, 1 } };
-
 static inline void mark(const run *r, sequent *s, int side, uint8_t f) { s->marks[side] |= r->mark[f]; }
 
 static inline void append_left(const run *r, sequent *s, uint8_t f)
@@ -185,13 +182,9 @@ static bool open_sequent(run *r, const sequent *s)
     return false;
 }
 
-// The tests before a reduction: FULL, then SPENT.
-static inline bool may_reduce(run *r, const sequent *s, uint8_t connective, int side)
+// The test before a reduction: SPENT.
+static inline bool may_reduce(run *r)
 {
-    if (s->left + s->right + grows[connective][side] > MOST_FORMULAS) {
-        r->number = FULL;
-        return false;
-    }
     if (r->reductions == r->budget) {
         r->number = SPENT;
         return false;
@@ -213,7 +206,7 @@ static bool prove_value(run *r, const sequent *s)
     if (side && at == s->right)
         return open_sequent(r, s);
     uint8_t x = s->items[side ? MOST_FORMULAS - 1 - at : at], connective = r->question[x];
-    if (!may_reduce(r, s, connective, side))
+    if (!may_reduce(r))
         return false;
     uint64_t leaves = leaving(r, s, side, at, x);
     for (int second = 0; second <= two_premises(connective, side); second++) {
@@ -242,7 +235,7 @@ static bool prove_best(run *r, sequent *s)
         if (side && at == s->right)
             return open_sequent(r, s);
         uint8_t x = s->items[side ? MOST_FORMULAS - 1 - at : at], connective = r->question[x];
-        if (!may_reduce(r, s, connective, side))
+        if (!may_reduce(r))
             return false;
         bool two = two_premises(connective, side);
         s->marks[side] ^= leaving(r, s, side, at, x);

@@ -12,8 +12,8 @@ enum { MOST_AGAIN = (MOST_CONNECTIVES + 2 * MOST_A_SIDE) / 2 }; // letters that 
 enum { MOST_SHARED = MOST_CONNECTIVES / 2 };                    // compounds that stand more than once
 enum { MOST_VARIED = 16, MOST_STATES = 1 << MOST_VARIED };
 enum { LEFT_SIDE = 0x10, RIGHT_SIDE = 0x20, LETTER = 1, NOT = 2, AND = 3, OR = 4, IMPLIES = 5, EQUIV = 6 };
-enum { TOO_LONG = 1, CUT, WRONG_COMMAND, MANY_FORMULAS, NO_SUCH_LETTER, MANY_CONNECTIVES, LEFT_OVER, FULL, SPENT };
-enum { NO_SPACE = 11, MANY_LETTERS, RIGHT_FORMULA, NOT_CLAUSE, MANY_POSITIVE };
+enum { TOO_LONG = 1, CUT, WRONG_COMMAND, MANY_FORMULAS, NO_SUCH_LETTER, MANY_CONNECTIVES, LEFT_OVER };
+enum { SPENT = 9, NO_SPACE = 11, MANY_LETTERS, RIGHT_FORMULA, NOT_CLAUSE, MANY_POSITIVE };
 
 // A question as read: where its commands and the formulas of each side start, and which letters stand more than once.
 typedef struct {

@@ -15,7 +15,7 @@ typedef struct {
     uint64_t left, first;       // compound formulas: of the left, and of the right before the queue
     uint64_t letters;           // of the left: the state, if the sequent is open
     uint64_t marks[2];          // of the formulas that stand on each side; it closes where they meet
-    uint8_t from, to, formulas; // the queue's bounds, and all formulas, letters too
+    uint8_t from, to;           // the queue's bounds
 } sequent;
 
 typedef struct {
@@ -27,7 +27,7 @@ typedef struct {
 typedef struct {
     placements premise[2];
     uint64_t mark; // the reduced formula's
-    uint8_t premises, grows;
+    uint8_t premises;
 } rule;
 
 typedef struct {
@@ -66,7 +66,6 @@ static inline void begin(rule *x, uint64_t mark)
     x->premise[0] = x->premise[1] = (placements){ 0 };
     x->mark = mark;
     x->premises = 1;
-    x->grows = 0;
 }
 
 static void rules_of(tables *t, uint8_t at)
@@ -83,24 +82,24 @@ static void rules_of(tables *t, uint8_t at)
     case AND:
         put(t, &l->premise[0], f, TO_LEFT), put(t, &l->premise[0], g, TO_LEFT);
         put(t, &r->premise[0], f, TO_RIGHT), put(t, &r->premise[1], g, TO_RIGHT);
-        l->grows = 1, r->premises = 2;
+        r->premises = 2;
         break;
     case OR:
         put(t, &l->premise[0], f, TO_LEFT), put(t, &l->premise[1], g, TO_LEFT);
         put(t, &r->premise[0], f, TO_RIGHT), put(t, &r->premise[0], g, TO_RIGHT);
-        r->grows = 1, l->premises = 2;
+        l->premises = 2;
         break;
     case IMPLIES:
         put(t, &l->premise[0], g, TO_LEFT), put(t, &l->premise[1], f, TO_END);
         put(t, &r->premise[0], f, TO_LEFT), put(t, &r->premise[0], g, TO_RIGHT);
-        r->grows = 1, l->premises = 2;
+        l->premises = 2;
         break;
     default:
         put(t, &l->premise[0], f, TO_LEFT), put(t, &l->premise[0], g, TO_LEFT);
         put(t, &l->premise[1], f, TO_END), put(t, &l->premise[1], g, TO_END);
         put(t, &r->premise[0], f, TO_LEFT), put(t, &r->premise[0], g, TO_RIGHT);
         put(t, &r->premise[1], g, TO_LEFT), put(t, &r->premise[1], f, TO_RIGHT);
-        l->grows = r->grows = 1, l->premises = r->premises = 2;
+        l->premises = r->premises = 2;
     }
 }
 
@@ -175,10 +174,10 @@ static uint32_t prove(tables *t, sequent s, uint64_t budget, uint64_t out[4])
             out[0] = 1, out[1] = s.letters;
             break;
         }
-        s.formulas += due->grows;
-        number = s.formulas > MOST_FORMULAS ? FULL : reductions == budget ? SPENT : 0;
-        if (number)
+        if (reductions == budget) {
+            number = SPENT;
             break;
+        }
         reductions++;
         if (due->premises == 2)
             waiting[depth++] = (pending){ s, &due->premise[1] };
@@ -196,8 +195,7 @@ static sequent root(tables *t, const reading *read)
         put(t, &p, read->starts[0][i], TO_LEFT);
     for (int i = 0; i < read->formulas[1]; i++)
         put(t, &p, read->starts[1][i], TO_RIGHT);
-    sequent s = { .formulas = read->formulas[0] + read->formulas[1] };
-    return placed(t, s, &p);
+    return placed(t, (sequent){ 0 }, &p);
 }
 
 // The connectives of the formula at a place.

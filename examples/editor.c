@@ -114,7 +114,7 @@ static derivation ask(uint8_t a, uint8_t b)
     uint64_t room = GEKUNDAY_DERIVATION_MAX(size[0], size[1]);
     printf("  at most %" PRIu64 " reductions, at most %" PRIu64 " bytes of derivation\n", budget, room);
 
-    /* With this budget the call is never SPENT, and FULL is out of reach of any question. */
+    /* With this budget the call is never SPENT. */
     gekunday_decide(q.bytes, q.length, budget, verdict);
     if (verdict[0] == GEKUNDAY_REFUTED) {
         printf("  yes, for example when it is");

@@ -98,7 +98,6 @@ fn login(title: &str, wall: &[Cell]) {
                     Kind::Theorem => "always".to_string(),
                     Kind::Refuted(state) => format!("not in state {state:#b}"),
                     Kind::Spent => "spent".to_string(),
-                    Kind::Full => "full".to_string(),
                 }
             }
             Err(refusal) => refusal.to_string(),

@@ -115,8 +115,7 @@ extern "C" {
 #define GEKUNDAY_MANY_CONNECTIVES 6 /* the 49th connective; place: the command's */
 #define GEKUNDAY_LEFT_OVER 7        /* bytes follow the last formula; place: the first such byte's */
 
-/* A run that came to no verdict, or a derivation that was not written; looked for in this order. */
-#define GEKUNDAY_FULL 8             /* a premise would hold more than 80 formulas; the limits above leave no such question */
+/* A run that came to no verdict, or a derivation that was not written; looked for in this order.  8 is not used again. */
 #define GEKUNDAY_SPENT 9            /* the budget is below the reductions that the question takes */
 #define GEKUNDAY_NOT_PROVED 10      /* a derivation is asked of a refuted question */
 #define GEKUNDAY_NO_SPACE 11        /* the buffer is shorter than the derivation, the list of states or the spelling */
@@ -146,7 +145,7 @@ extern "C" {
 /*
  * Decides a question, with at most `budget` reductions (0 is allowed).
  *
- *   0: out = {0 theorem or 1 refuted, state, reductions, closings}; 8, 9: {0, 0, reductions, closings}; 1 to 7: {place}
+ *   0: out = {0 theorem or 1 refuted, state, reductions, closings}; 9: {0, 0, reductions, closings}; 1 to 7: {place}
  *
  * The state has bit k set exactly if letter k is true in it; it is 0 for a theorem.  9 (SPENT) exactly if the question
  * takes more reductions than the budget; it then reports the budget as reductions.
@@ -174,7 +173,7 @@ uint32_t gekunday_formula(const uint8_t *question, size_t length, uint32_t side 
  * Decides a question like gekunday_decide and, if it is a theorem, writes its derivation to the first bytes of `buffer`,
  * which has `room` bytes.  The bytes behind the derivation keep their content.
  *
- *   0: out = {length, reductions, closings}; 8, 9: {reductions, closings}; 10: {state, reductions, closings};
+ *   0: out = {length, reductions, closings}; 9: {reductions, closings}; 10: {state, reductions, closings};
  *   11: {length needed}; 1 to 7: {place}
  *
  * Under any number but 0 the whole buffer keeps its content.  A buffer of GEKUNDAY_DERIVATION_MAX(W, c) bytes is never
@@ -250,8 +249,8 @@ uint32_t gekunday_spell(const uint8_t *question, size_t length, uint8_t *buffer,
  * number of different letters in the question.
  *
  * The state of a refuted question is the least one: each letter true in it is true in every state that refutes.  It is
- * 0 for a theorem.  There is no budget: the verdict is that of gekunday_decide wherever that does not end with 8 or 9.
- * The state that gekunday_decide names need not be the least.
+ * 0 for a theorem.  There is no budget: the verdict is that of gekunday_decide wherever that does not end with 9.  The
+ * state that gekunday_decide names need not be the least.
  *
  * A question without any formula is made of clauses alone: it is refuted, with state 0 and 0 rounds.  NOT NOT a is no
  * clause (14), and a OR a has two letters without NOT (15).

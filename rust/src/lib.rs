@@ -188,8 +188,6 @@ pub enum Kind {
     Refuted(u64),
     /// The question takes more reductions than the budget.
     Spent,
-    /// A premise would hold more than 80 formulas. Within the limits of a question this does not happen.
-    Full,
 }
 
 /// The answer of [`decide`].
@@ -245,13 +243,6 @@ pub struct Written<'b> {
 pub enum NotWritten {
     /// 1 to 7: the question is refused.
     Refused(Refusal),
-    /// 8: a premise would hold more than 80 formulas.
-    Full {
-        /// Reductions made.
-        reductions: u64,
-        /// Sequents closed.
-        closings: u64,
-    },
     /// 9: the question takes more reductions than the budget.
     Spent {
         /// Reductions made: the budget.
@@ -276,11 +267,10 @@ pub enum NotWritten {
 }
 
 impl NotWritten {
-    /// The library's number: 1 to 11.
+    /// The library's number: 1 to 7, or 9 to 11.
     pub const fn number(self) -> u32 {
         match self {
             NotWritten::Refused(refusal) => refusal.number(),
-            NotWritten::Full { .. } => 8,
             NotWritten::Spent { .. } => 9,
             NotWritten::NotProved { .. } => 10,
             NotWritten::NoSpace { .. } => 11,
@@ -292,7 +282,6 @@ impl fmt::Display for NotWritten {
     fn fmt(&self, f: &mut fmt::Formatter<'_>) -> fmt::Result {
         match self {
             NotWritten::Refused(refusal) => refusal.fmt(f),
-            NotWritten::Full { reductions, .. } => write!(f, "full after {} reductions", reductions),
             NotWritten::Spent { reductions, .. } => write!(f, "spent after {} reductions", reductions),
             NotWritten::NotProved { state, .. } => write!(f, "not proved: false in state {}", state),
             NotWritten::NoSpace { needed } => write!(f, "no space: {} bytes needed", needed),
@@ -562,7 +551,6 @@ pub fn decide(question: &[u8], budget: u64) -> Result<Verdict, Refusal> {
     let kind = match (number, first) {
         (0, 0) => Kind::Theorem,
         (0, _) => Kind::Refuted(state),
-        (8, _) => Kind::Full,
         (9, _) => Kind::Spent,
         _ => return Err(Refusal::of(number, first)),
     };
@@ -674,7 +662,6 @@ pub fn derive<'b>(question: &[u8], budget: u64, buffer: &'b mut [u8]) -> Result<
             let derivation = buffer.get(..length).ok_or(NotWritten::NoSpace { needed: first })?;
             Ok(Written { derivation, reductions: second, closings: third })
         }
-        8 => Err(NotWritten::Full { reductions: first, closings: second }),
         9 => Err(NotWritten::Spent { reductions: first, closings: second }),
         10 => Err(NotWritten::NotProved { state: first, reductions: second, closings: third }),
         11 => Err(NotWritten::NoSpace { needed: first }),
@@ -819,8 +806,7 @@ pub fn spell<'b>(question: &[u8], buffer: &'b mut [u8]) -> Result<&'b [u8], NotS
 /// many as the different letters in the question.
 ///
 /// The state of a refuted question is the least one: each letter true in it is true in every refuting state. The state
-/// that [`decide`] names need not be the least. The verdict is that of [`decide`] wherever that is not [`Kind::Spent`]
-/// or [`Kind::Full`].
+/// that [`decide`] names need not be the least. The verdict is that of [`decide`] wherever that is not [`Kind::Spent`].
 ///
 /// ```
 /// use gekunday::{clauses, decide, ClauseVerdict, Kind, NotClauses};

@@ -1,7 +1,7 @@
 //! The C interface, as `include/gekunday.h` declares it. The comments there say what each call answers.
 
 extern "C" {
-    /// 0: `out` = {0 theorem or 1 refuted, state, reductions, closings}; 8, 9: {0, 0, reductions, closings};
+    /// 0: `out` = {0 theorem or 1 refuted, state, reductions, closings}; 9: {0, 0, reductions, closings};
     /// 1 to 7: {place}.
     ///
     /// # Safety
@@ -20,7 +20,7 @@ extern "C" {
     /// `question` is good for reading `length` bytes, `out` for writing 2 words.
     pub fn gekunday_formula(question: *const u8, length: usize, side: u32, place: usize, out: *mut u64) -> u32;
 
-    /// 0: `out` = {length, reductions, closings}; 8, 9: {reductions, closings}; 10: {state, reductions, closings};
+    /// 0: `out` = {length, reductions, closings}; 9: {reductions, closings}; 10: {state, reductions, closings};
     /// 11: {length needed}; 1 to 7: {place}.
     ///
     /// # Safety

@@ -166,3 +166,8 @@ fn standard_spellings() {
 fn rules_as_clauses() {
     assert_eq!(compare(include_str!("answers/f.txt")), 700);
 }
+
+#[test]
+fn no_number_8() {
+    assert_eq!(compare(include_str!("answers/g.txt")), 500);
+}

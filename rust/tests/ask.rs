@@ -5,8 +5,7 @@
 //! The program is the file that GEKUNDAY_ASK names, by default ../target/bin/ask (`bash tools/build ask` proves and builds it).
 //! Where there is none, the tests fail.
 //!
-//! `ask` has the one budget of 1,000,000, so document 01's case 10 (budgets 7 and 8) is in `cases.rs` only. No question
-//! gives FULL, so no input prints `full`.
+//! `ask` has the one budget of 1,000,000, so document 01's case 10 (budgets 7 and 8) is in `cases.rs` only.
 
 mod common;
 
@@ -84,7 +83,6 @@ fn due(input: &[u8]) -> String {
     assert!(!whole || table.true_everywhere() == (tree.end == End::Theorem), "the truth of {:02x?}", input);
     match tree.end {
         End::Large => format!("spent {r} {c} {width}\n"),
-        End::Full => format!("full {r} {c} {width}\n"),
         End::Refuted(state) => {
             assert!(!table.true_in(state), "the state of {:02x?}", input);
             format!("refuted {state} {r} {c} {width}\n")

@@ -1,7 +1,7 @@
 -- "ask": what is printed for a question.
 use Rattle.std.specs.Prelude.{◌≡◌, refl, List, [], ◌∷◌, ◌++◌, ℕ, ◌+◌, ltb, length, codes}
 use Rattle.calculus.specs.declared.Kind.{Kind}
-use Rattle.calculus.specs.declared.Kind.TheVariants.{Theorem, Refuted, Spent, Full}
+use Rattle.calculus.specs.declared.Kind.TheVariants.{Theorem, Refuted, Spent}
 use Rattle.calculus.specs.declared.Verdict.{Verdict}
 use Rattle.calculus.specs.Fold.{choose}
 use Rattle.calculus.specs.Limits.{LONGEST}
@@ -29,12 +29,11 @@ BUFFER = 4096
 abbrev pub derivation_line : List ℕ → List ℕ
 derivation_line ds = choose (ltb BUFFER (length ds)) (codes "no space") (hexadecimal ds) ++ newline
 
--- "`theorem r c W`, `refuted s r c W`, `spent r c W`"; "after `theorem` a second line"; "number 8 prints as `full r c W`"
+-- "`theorem r c W`, `refuted s r c W`, `spent r c W`"; "after `theorem` a second line"
 abbrev pub verdict_text : Kind → ℕ → ℕ → ℕ → List ℕ → List ℕ
 verdict_text Theorem r c w ds = line (codes "theorem") (r ∷ c ∷ w ∷ []) ++ derivation_line ds
 verdict_text (Refuted s) r c w ds = line (codes "refuted") (s ∷ r ∷ c ∷ w ∷ [])
 verdict_text Spent r c w ds = line (codes "spent") (r ∷ c ∷ w ∷ [])
-verdict_text Full r c w ds = line (codes "full") (r ∷ c ∷ w ∷ [])
 
 -- "or `refused n p`"
 abbrev pub read_text : Reading → Sequent → List ℕ

@@ -66,7 +66,6 @@ fn verdict_text(
             format!(in alloc; "refuted {state} {reductions} {closings} {width}\n")
         }
         Kind::Spent => format!(in alloc; "spent {reductions} {closings} {width}\n"),
-        Kind::Full => format!(in alloc; "full {reductions} {closings} {width}\n"),
     }
 }
 

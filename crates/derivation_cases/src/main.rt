@@ -1,5 +1,5 @@
 // The derivations of document 01's cases 2, 4, 5, 7 and 11, other orders, and the smallest examples of its numbers 9 to 11 and
-// 20 to 26. Number 8 has none: no premise of an accepted question holds more than 80 formulas.
+// 20 to 26.
 #![tactic(auto)]
 
 use calculus::{Kind, Verdict};
@@ -28,7 +28,6 @@ fn unproved(rt: &impl Print, v: Verdict) -> io::Result<()> {
     } = v;
     match kind {
         Kind::Theorem => println!(rt; "theorem {reductions} {closings}"),
-        Kind::Full => println!(rt; "full 8 {reductions} {closings}"),
         Kind::Spent => println!(rt; "spent 9 {reductions} {closings}"),
         Kind::Refuted(state) => println!(rt; "not proved 10 {state} {reductions} {closings}"),
     }

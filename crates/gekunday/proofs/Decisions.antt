@@ -1,6 +1,6 @@
 -- The words of what is decided are those of the reply's values. Assumes nothing.
 use Rattle.std.proofs.Common.{◌≡◌, refl, sym, ap, ◌∙◌, ℕ, List, [], ◌∷◌, Result, Ok, Err}
-use Rattle.calculus.specs.declared.Kind.TheVariants.{Theorem, Refuted, Spent, Full}
+use Rattle.calculus.specs.declared.Kind.TheVariants.{Theorem, Refuted, Spent}
 use Rattle.calculus.specs.declared.Kind.{Kind}
 use Rattle.calculus.specs.declared.Verdict.{Verdict}
 use Rattle.calculus.specs.Bytes.{question}
@@ -23,7 +23,6 @@ kind_words : (k : Kind) (r n : ℕ) → refuted_word k ∷ state_word k ∷ r �
 kind_words Theorem r n = refl
 kind_words (Refuted σ) r n = refl
 kind_words Spent r n = refl
-kind_words Full r n = refl
 
 answered : (a : Result Verdict Refusal) (w : Words) → Decided a w → w.values ≡ words_of (decision_of a).values
 answered (Ok v) w h = h.1 ∙ kind_words v.kind v.reductions v.closings

@@ -2,10 +2,10 @@
 use Rattle.std.specs.Prelude.{◌≡◌, List, [], ◌∷◌, ℕ, zero, suc, Result, Ok, Err}
 use Rattle.calculus.specs.declared.Side.TheVariants.{Left, Right}
 use Rattle.calculus.specs.declared.Kind.{Kind}
-use Rattle.calculus.specs.declared.Kind.TheVariants.{Theorem, Refuted, Spent, Full}
+use Rattle.calculus.specs.declared.Kind.TheVariants.{Theorem, Refuted, Spent}
 use Rattle.calculus.specs.declared.Part.{Part}
 use Rattle.calculus.specs.declared.Verdict.{Verdict}
-use Rattle.calculus.specs.Limits.{SPENT, FULL}
+use Rattle.calculus.specs.Limits.{SPENT}
 use Rattle.calculus.specs.Bytes.{question}
 use Rattle.calculus.specs.Reading.{Reading, accepted, refused, reading}
 use Rattle.calculus.specs.Tree.{verdict}
@@ -30,19 +30,16 @@ abbrev pub kind_number : Kind → ℕ
 kind_number Theorem = 0
 kind_number (Refuted σ) = 0
 kind_number Spent = SPENT
-kind_number Full = FULL
 
 abbrev pub refuted_word : Kind → ℕ
 refuted_word Theorem = 0
 refuted_word (Refuted σ) = 1
 refuted_word Spent = 0
-refuted_word Full = 0
 
 abbrev pub state_word : Kind → ℕ
 state_word Theorem = 0
 state_word (Refuted σ) = σ
 state_word Spent = 0
-state_word Full = 0
 
 abbrev pub verdict_words : Verdict → List ℕ
 verdict_words v = refuted_word v.kind ∷ state_word v.kind ∷ v.reductions ∷ v.closings ∷ []

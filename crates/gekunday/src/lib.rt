@@ -102,8 +102,6 @@ pub fn decide_clauses(q: &[u8]) -> Result<ClauseVerdict, NotClauses>
 
 // What C gets in place of an enum: the numbers for a run that came to no verdict, for a derivation, a list or a spelling that is
 // not written, and for a question outside the clause profile.
-const FULL: u32 = 8;
-
 const SPENT: u32 = 9;
 
 const NOT_PROVED: u32 = 10;
@@ -178,7 +176,6 @@ impl From<Verdict> for Words {
             Kind::Theorem => (0, 0, 0),
             Kind::Refuted(state) => (0, 1, state),
             Kind::Spent => (SPENT, 0, 0),
-            Kind::Full => (FULL, 0, 0),
         };
         Words {
             number,
@@ -210,7 +207,6 @@ fn unproved_words(v: Verdict) -> Words
         },
         Kind::Theorem => counts(0, v),
         Kind::Spent => counts(SPENT, v),
-        Kind::Full => counts(FULL, v),
     }
 }
 

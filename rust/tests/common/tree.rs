@@ -147,12 +147,36 @@ impl Question<'_> {
         left * right
     }
 
-    /// The tree, cut off where it would have more than `limit` reductions.
-    pub fn tree(&self, limit: usize) -> Tree {
-        let root = Sequent {
+    fn root(&self) -> Sequent<'_> {
+        Sequent {
             left: self.left.iter().map(|placed| &placed.formula).collect(),
             right: self.right.iter().map(|placed| &placed.formula).collect(),
-        };
+        }
+    }
+
+    /// The most formulas that a sequent holds on one way down, until no connective is left: which compound is reduced, on
+    /// either side, and which premise is taken, `draw` chooses below a number. No sequent is closed.
+    pub fn most_formulas(&self, mut draw: impl FnMut(usize) -> usize) -> usize {
+        let mut sequent = self.root();
+        let mut most = 0;
+        loop {
+            most = most.max(sequent.left.len() + sequent.right.len());
+            let (left, right) = (compounds(&sequent.left), compounds(&sequent.right));
+            if left.is_empty() && right.is_empty() {
+                return most;
+            }
+            let chosen = draw(left.len() + right.len());
+            let mut premises = match left.get(chosen) {
+                Some(&at) => sequent.reduce_left(at),
+                None => sequent.reduce_right(right[chosen - left.len()]),
+            };
+            sequent = premises.swap_remove(draw(premises.len()));
+        }
+    }
+
+    /// The tree, cut off where it would have more than `limit` reductions.
+    pub fn tree(&self, limit: usize) -> Tree {
+        let root = self.root();
         let mut tree = Tree {
             end: End::Theorem,
             reductions: 0,
@@ -173,7 +197,6 @@ impl Question<'_> {
 pub enum End {
     Theorem,
     Refuted(u64),
-    Full,
     /// More reductions than the limit.
     Large,
 }
@@ -234,6 +257,10 @@ impl Formula<'_> {
     fn is_letter(&self) -> bool {
         matches!(self.shape, Shape::Letter(_))
     }
+}
+
+fn compounds(side: &[&Formula]) -> Vec<usize> {
+    (0..side.len()).filter(|&place| !side[place].is_letter()).collect()
 }
 
 fn first_compound(side: &[&Formula]) -> Option<usize> {
@@ -332,9 +359,6 @@ impl Tree {
             (None, None) => return Err(End::Refuted(letters(&sequent.left))),
         };
         let premises = if command < 0x60 { sequent.reduce_left(at) } else { sequent.reduce_right(at) };
-        if premises.iter().any(|premise| premise.left.len() + premise.right.len() > 80) {
-            return Err(End::Full);
-        }
         self.closings_before.push(self.closings);
         if self.reductions == self.limit as u64 {
             return Err(End::Large);
@@ -380,7 +404,6 @@ impl Tree {
         match self.end {
             End::Theorem => (0, [0, 0, self.reductions, self.closings]),
             End::Refuted(state) => (0, [1, state, self.reductions, self.closings]),
-            End::Full => (8, [0, 0, self.reductions, self.closings]),
             End::Large => panic!("the tree was cut off before this budget"),
         }
     }

@@ -19,9 +19,3 @@ returns-in-Spent c =
     let v = c.args.v in
     rw (c.in-Spent.is, ← line_alone (codes "spent") (v.reductions ∷ v.closings ∷ c.args.width ∷ []) (omega arith, (omega arith, (omega arith, tt))))
     c.format-in-Spent.ensures.ok
-
-pub returns-in-Full : goal.returns-in-Full
-returns-in-Full c =
-    let v = c.args.v in
-    rw (c.in-Full.is, ← line_alone (codes "full") (v.reductions ∷ v.closings ∷ c.args.width ∷ []) (omega arith, (omega arith, (omega arith, tt))))
-    c.format-in-Full.ensures.ok
