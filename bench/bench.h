@@ -7,7 +7,7 @@ enum { EDITOR, LIMITS, CONDITIONS, SETS, DISTINCT_SETS = 2 };
 enum { REPEATS = SETS, LONGEST, SPELLED_SETS };
 enum { FEW_CLAUSES, MANY_CLAUSES, CHAINS, CLAUSES_SETS };
 enum { SORTED, INSERTION, UNITS = 0, ONEPASS, PEERS }; // those that spell, and those that decide clauses
-enum { OURS = PEERS, OTHER, TIMES };
+enum { OURS = PEERS, BEFORE, DECIDE_CALL, TIMES }; // ours, the archive's before, and gekunday_decide's on clauses
 enum { CALLS = 7, MOST_IMPLEMENTATIONS = 16, MOST_LISTERS = 16, MOST_KINDS = 16, MOST_ROUNDS = 101 };
 enum { DAMAGES = LETTERS + 16 }; // a changed byte is below this: a command, a letter, or one too high
 
@@ -81,9 +81,9 @@ typedef struct {
     spread_time spread_time;
     question_set repeats, longest;
     const question_set *spelled[SPELLED_SETS]; // the first sets and these two
-    peers_time spellings[SPELLED_SETS];        // OTHER is the archive before
+    peers_time spellings[SPELLED_SETS];
     question_set clauses[CLAUSES_SETS];
-    peers_time clauses_times[CLAUSES_SETS]; // OTHER is gekunday_decide
+    peers_time clauses_times[CLAUSES_SETS];
     reading_time readings[SETS + 1];
     formula_time formulas[SPELLED_SETS];
     derivation_time derivations[SETS + DISTINCT_SETS];
@@ -96,7 +96,7 @@ void sum_up(double *samples, int count, double *best, double *median);
 // Each round begins at another stack address, so that no single layout decides.
 #define SHIFT_STACK(round) (*(volatile char *)__builtin_alloca(16 + (round) * 208 % 1024) = 0)
 
-// So many kinds of pass over a set take turns within a round. A pass answers whose it is: a peer's, OURS or OTHER.
+// So many kinds of pass over a set take turns within a round. A pass answers whose it is: a peer's, or one of those above.
 typedef int set_pass(int kind, const question_set *set);
 peers_time time_passes(set_pass *pass, int kinds, const question_set *set, int rounds);
 

@@ -8,14 +8,21 @@
 clauses peer_units_clauses_clang, peer_onepass_clauses_clang;
 #endif
 
+#ifdef WITH_BEFORE
+clauses before_clauses;
+#endif
+
 static const struct {
     const char *name;
     clauses *clauses; // none for gekunday_decide
-    int who;          // a peer in one of its builds, OURS or, for gekunday_decide, OTHER
+    int who;          // a peer in one of its builds, OURS, BEFORE or DECIDE_CALL
 } deciders[] = {
     { "gekunday", gekunday_clauses, OURS },
     { "peer_units (" CC_NAME ")", peer_units_clauses, UNITS },
-    { "gekunday_decide", 0, OTHER },
+#ifdef WITH_BEFORE
+    { "before", before_clauses, BEFORE },
+#endif
+    { "gekunday_decide", 0, DECIDE_CALL },
     { "peer_onepass (" CC_NAME ")", peer_onepass_clauses, ONEPASS },
 #ifdef WITH_CLANG
     { "peer_units (clang)", peer_units_clauses_clang, UNITS },

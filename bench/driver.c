@@ -303,7 +303,7 @@ static double sample_passes(set_pass *pass, int kind, const question_set *set, i
 
 peers_time time_passes(set_pass *pass, int kinds, const question_set *set, int rounds)
 {
-    peers_time t = { set, { 1e18, 1e18, 1e18, 1e18 } };
+    peers_time t = { set, { 1e18, 1e18, 1e18, 1e18, 1e18 } };
     int times[MOST_KINDS], who;
     for (int k = 0; k < kinds; k++) {
         pass(k, set);

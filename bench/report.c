@@ -191,7 +191,7 @@ static void write_spelling(FILE *file, const results *r)
     for (int s = 0; s < SPELLED_SETS; s++) {
         const peers_time *t = &r->spellings[s];
         begin_peers_row(file, t);
-        end_row(file, t->best[OURS], t->best[OTHER]);
+        end_row(file, t->best[OURS], t->best[BEFORE]);
     }
     fprintf(file, "\n");
 }
@@ -201,15 +201,16 @@ static void write_clauses(FILE *file, const results *r)
     fprintf(file, "## Clauses\n\n");
     begin_peers_head(file, clauses_peers);
     fprintf(file, " gekunday_decide | decide / gekunday | rounds | reductions |");
-    write_rule(file, 5 + 2 * PEERS);
+    end_head(file, 5 + 2 * PEERS);
     for (int s = 0; s < CLAUSES_SETS; s++) {
         const peers_time *t = &r->clauses_times[s];
         const question_set *set = t->set;
         char decide[32];
         begin_peers_row(file, t);
-        format_time(decide, sizeof decide, t->best[OTHER]);
-        fprintf(file, " %s | %.1f | %.1f | %.1f |\n", decide, t->best[OTHER] / t->best[OURS],
+        format_time(decide, sizeof decide, t->best[DECIDE_CALL]);
+        fprintf(file, " %s | %.1f | %.1f | %.1f |", decide, t->best[DECIDE_CALL] / t->best[OURS],
                 (double)set->rounds / set->count, (double)set->reductions / set->count);
+        end_row(file, t->best[OURS], t->best[BEFORE]);
     }
     fprintf(file, "\n");
 }

@@ -17,12 +17,12 @@ enum { FILL = 0xa5, BUFFER = MOST_BYTES + 44 }; // the buffer goes on behind the
 static const struct {
     const char *name;
     spell *spell;
-    int who; // a peer in one of its builds, OURS or, before, OTHER
+    int who; // a peer in one of its builds, OURS or BEFORE
 } spellers[] = {
     { "gekunday", gekunday_spell, OURS },
     { "peer_sorted (" CC_NAME ")", peer_sorted_spell, SORTED },
 #ifdef WITH_BEFORE
-    { "before", before_spell, OTHER },
+    { "before", before_spell, BEFORE },
 #endif
     { "peer_insertion (" CC_NAME ")", peer_insertion_spell, INSERTION },
 #ifdef WITH_CLANG

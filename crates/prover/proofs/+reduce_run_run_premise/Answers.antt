@@ -44,6 +44,15 @@ reduce-returns-in_default t c = ahead_stops c.loop-p.invariant c.loop-p-test.tru
 
 -- ---- the run
 
+pub run-returns-in-Closed : goal.run-returns-in-Closed
+run-returns-in-Closed t c = c.ended.ensures ∙ rw c.in-Closed.is at (answered c.step.ensures)
+
+pub run-returns-in-Paired : goal.run-returns-in-Paired
+run-returns-in-Paired t c = c.ended-in-Paired.ensures ∙ rw c.in-Paired.is at (answered c.step.ensures)
+
+pub run-returns-in-Open : goal.run-returns-in-Open
+run-returns-in-Open t c = c.ended-in-Open.ensures ∙ rw c.in-Open.is at (answered c.step.ensures)
+
 pub run-returns-in-Spent : goal.run-returns-in-Spent
 run-returns-in-Spent t c = c.ended-in-Spent.ensures ∙ rw c.in-Spent.is at (answered c.step.ensures)
 
