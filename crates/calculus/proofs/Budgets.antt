@@ -16,7 +16,7 @@ use Rattle.calculus.specs.declared.Verdict.{Verdict}
 use Rattle.calculus.specs.Fold.{Each}
 use Rattle.calculus.specs.Syntax.{Sequent, c}
 use Rattle.calculus.specs.Table.{premises}
-use Rattle.calculus.specs.Tree.{Way, closing, missing, Step, closed, opened, reduced, tests, step, Event, close, reduce, Tree, follow, chain, grow, tree, reductions, closings, pairings, one_more, spend, outcome, verdict, closings_before, afford, inner, and_then, pass, act, bare, run_by, run}
+use Rattle.calculus.specs.Tree.{Way, closing, missing, Step, closed, opened, reduced, tests, step, Event, close, reduce, Tree, follow, chain, grow, leaf, tree, reductions, closings, pairings, one_more, spend, outcome, verdict, closings_before, afford, inner, and_then, pass, act, run_by, run}
 use Rattle.calculus.proofs.Folds.{each}
 use Rattle.calculus.proofs.Sequents.{Smaller, smaller}
 use Rattle.calculus.proofs.Trees.{Right_step, right_step, bare_tests, tree_grows}
@@ -157,7 +157,7 @@ act_same r (suc b) S h (reduced s i x) p =
     (each (Smaller S) (λ P. (l : ℕ) → r l P ≡ outcome l P) (λ P k l. h l P k) (premises s i x S) (smaller s i x S p))
 
 -- where no connective is left
-run_bare : (b : ℕ) (S : Sequent) (o : Option Way) → bare b S o ≡ act outcome b S (afford b (tests S o missing missing))
+run_bare : (b : ℕ) (S : Sequent) (o : Option Way) → spend b (leaf S o).events (leaf S o).end ≡ act outcome b S (afford b (tests S o missing missing))
 run_bare b S none = refl
 run_bare b S (some w) = refl
 

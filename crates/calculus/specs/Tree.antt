@@ -275,14 +275,11 @@ act r b S (is_open σ) = ends (Refuted σ) b
 act r b S is_spent = ends Spent b
 act r b S (is_due s i x) = pass r (b - 1) (premises s i x S)
 
--- where no connective is left there is nothing to spend
-abbrev pub bare : ℕ → Sequent → Option Way → Outcome
-bare b S (some w) = one_more w (ends Theorem b)
-bare b S none = ends (Refuted (state (letters S.on_left))) b
-
--- by the number of connectives
+-- by the number of connectives; where none is left there is nothing to spend
 abbrev pub run_by : ℕ → ℕ → Sequent → Outcome
-run_by zero b S = bare b S (closing S)
+run_by zero b S =
+    let t : Tree = leaf S (closing S) in
+    spend b t.events t.end
 run_by (suc n) b S = act (λ l P. run_by n l P) b S (inner b S)
 
 abbrev pub run : ℕ → Sequent → Outcome

@@ -37,7 +37,7 @@ pub record Stepped (T items : List ℕ) (s : Running) (left : ℕ) (r : Finding)
   pub inner : inner_of T (view s items) r ≡ inner left (sequent_of T items s)
   pub ready : Ready T items s left r
 
--- the reduction of the first compound can be made
+-- the reduction of the first compound can be made, of a sequent that is reached
 pub record First (T items : List ℕ) (s : Running) (r : Reduction) : Type 0 where
   pub good : Good T items s
   pub found : FoundAt (view s items) r.place.side r.place.at
