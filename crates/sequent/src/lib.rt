@@ -169,7 +169,7 @@ fn rule_of(k: Connective, side: Side) -> &'static [Placing]
 
 impl Reduction {
     // The command of the compound's connective: a node is one word, as naming searches for words.
-    pub fn command(self) -> u8
+    fn command(self) -> u8
         ensures { result ≡ self.node % 256 }
     {
         self.node.to_le_bytes()[0]
