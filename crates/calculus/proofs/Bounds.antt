@@ -18,7 +18,7 @@ use Rattle.calculus.specs.Fold.{fold, ANY, ALL, SUM, PRODUCT, Each}
 use Rattle.calculus.specs.Syntax.{other, Binary, AND, OR, IMPLIES, EQUIV, Formula, letter, neg, join, Sequent, connectives, c}
 use Rattle.calculus.specs.Truth.{value, says, truth, Valid, Refutes}
 use Rattle.calculus.specs.Table.{premises}
-use Rattle.calculus.specs.Tree.{Way, closing, Step, closed, opened, reduced, Event, Tree, follow, chain, grow, tree_by, tree, is_reduce, is_close, reductions, closings}
+use Rattle.calculus.specs.Tree.{Way, closing, Step, closed, opened, reduced, Event, Tree, follow, chain, grow, tree_by, tree, open_one, is_reduce, is_close, reductions, closings}
 use Rattle.calculus.specs.Width.{wide, width, W}
 use Rattle.calculus.proofs.Folds.{fold_append, or_false_both, each_false}
 use Rattle.calculus.proofs.Sequents.{truth_premises, width_premises, Smaller, smaller}
@@ -56,16 +56,10 @@ Claim b Theorem = (σ : ℕ) → b σ ≡ true
 Claim b (Refuted σ) = b σ ≡ false
 Claim b Spent = ⊥
 
--- 1 where a sequent is open
-abbrev pub early : Kind → ℕ
-early Theorem = 0
-early (Refuted σ) = 1
-early Spent = 1
-
 -- a tree of what is true as b says, w wide, with fewer than n connectives
 pub record Meets (b : ℕ → Bool) (w n : ℕ) (t : Tree) : Type 0 where
   pub verdict : Claim b t.end
-  pub leaves : closings t.events + early t.end ≤ w
+  pub leaves : closings t.events + open_one t.end ≤ w
   pub used : reductions t.events + w ≤ n * w
 
 follow_claim : (a b : ℕ → Bool) (es : List Event) (e : Kind) (u : Tree) → Claim a e → Claim b u.end → Claim (λ σ. a σ && b σ) (follow es e u).end
@@ -78,8 +72,8 @@ follow_claim a b es Theorem u h k = go u.end k
     go (Refuted σ) k = rw (h σ) k
     go Spent k = k
 
-follow_leaves : (es : List Event) (e : Kind) (u : Tree) (v w : ℕ) → closings es + early e ≤ v → closings u.events + early u.end ≤ w
-    → closings (follow es e u).events + early (follow es e u).end ≤ v + w
+follow_leaves : (es : List Event) (e : Kind) (u : Tree) (v w : ℕ) → closings es + open_one e ≤ v → closings u.events + open_one u.end ≤ w
+    → closings (follow es e u).events + open_one (follow es e u).end ≤ v + w
 follow_leaves es Theorem u v w h k = omega (arith, fold_append SUM is_close es u.events)
 follow_leaves es (Refuted σ) u v w h k = omega arith
 follow_leaves es Spent u v w h k = omega arith
@@ -154,7 +148,7 @@ never_spent S e = rw e at (tree_fine S).verdict
 pub reductions_bound : (S : Sequent) → reductions (tree S).events ≤ c S * W S
 reductions_bound S = omega (arith, (tree_fine S).used, add-mul 1 (c S) (W S))
 
-pub closings_bound : (S : Sequent) → closings (tree S).events + early (tree S).end ≤ W S
+pub closings_bound : (S : Sequent) → closings (tree S).events + open_one (tree S).end ≤ W S
 closings_bound S = (tree_fine S).leaves
 
 -- ---- the width is at most 2 to the power of the connectives

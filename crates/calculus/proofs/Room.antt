@@ -8,11 +8,11 @@ use native.Mathlib.Nat.{le_refl}
 use native.Mathlib.Omega.{arith}
 use Rattle.calculus.specs.declared.Side.{Side}
 use Rattle.calculus.specs.Fold.{Each}
-use Rattle.calculus.specs.Limits.{Limits, room}
+use Rattle.calculus.specs.Limits.{Limits, LIMITS, room}
 use Rattle.calculus.specs.Syntax.{Compound, Sequent, c, size}
 use Rattle.calculus.specs.Bytes.{question, WithinUnder}
-use Rattle.calculus.specs.Reading.{accepted, reading_under}
-use Rattle.calculus.specs.Table.{Due, premises}
+use Rattle.calculus.specs.Reading.{accepted, reading, reading_under}
+use Rattle.calculus.specs.Table.{Holds, premises}
 use Rattle.calculus.specs.Reached.{Reached, here, from, ReachableUnder}
 use Rattle.calculus.proofs.Folds.{ones, each_found, each_by}
 use Rattle.calculus.proofs.Sequents.{Smaller, smaller}
@@ -47,6 +47,11 @@ module _ (L : Limits) where
   pub reachable_few : (S : Sequent) → ReachableUnder L S → c S ≤ L.connectives
   reachable_few S r = omega (arith, (reached_less r.reached).0, r.within.connectives)
 
-  pub reachable_premises : (s : Side) (i : ℕ) (x : Compound) (S : Sequent) → Due S s i x → ReachableUnder L S → Each (ReachableUnder L) (premises s i x S)
+  pub reachable_premises : (s : Side) (i : ℕ) (x : Compound) (S : Sequent) → Holds S s i x → ReachableUnder L S → Each (ReachableUnder L) (premises s i x S)
   reachable_premises s i x S d r =
       each_by (ReachableUnder L) (premises s i x S) (λ n P e. record { question = r.question; within = r.within; reached = from S r.reached s i x d n e })
+
+-- ---- as document 02 has it
+
+pub eighty : (q : List ℕ) → reading q ≡ accepted → (P : Sequent) → Reached (question q) P → size P ≤ 80
+eighty = accepted_room LIMITS

@@ -12,7 +12,7 @@ use Rattle.calculus.specs.declared.Side.TheVariants.{Left, Right}
 use Rattle.calculus.specs.Fold.{Monoid, fold, ALL, ANY, SUM, PRODUCT, Each}
 use Rattle.calculus.specs.Syntax.{Formula, Compound, whole, Seq, Sequent, over, connectives, c, size}
 use Rattle.calculus.specs.Truth.{says, truth}
-use Rattle.calculus.specs.Table.{Put, L, R, on, splice, premise, reduct, Due, premises}
+use Rattle.calculus.specs.Table.{Put, L, R, on, splice, premise, reduct, Holds, premises}
 use Rattle.calculus.specs.Width.{width, W}
 use Rattle.calculus.proofs.Folds.{left_comm, unit_right, fold_append, fold_map, Distributes, times_fold, ALL_ANY, SUM_PRODUCT, fold_add, each_map}
 use Rattle.calculus.proofs.Rules.{at, truth_rule, width_rule, weight, parts, parts_rule}
@@ -56,16 +56,16 @@ splice_here [] i w e = absurd (none-ne-some w e)
 splice_here (x ∷ xs) zero w e = cc
 splice_here {X} (x ∷ xs) (suc i) w e = ap (λ (l : List X). x ∷ l) (splice_here xs i w e)
 
-pub put_back : (s : Side) (i : ℕ) (x : Compound) (S : Sequent) → Due S s i x → premise s i S (put s (whole x) ∷ []) ≡ S
+pub put_back : (s : Side) (i : ℕ) (x : Compound) (S : Sequent) → Holds S s i x → premise s i S (put s (whole x) ∷ []) ≡ S
 put_back Left i x S e = λ j. record { on_left = splice_here S.on_left i (whole x) e j; on_right = append-nil S.on_right j }
 put_back Right i x S e = λ j. record { on_left = append-nil S.on_left j; on_right = splice_here S.on_right i (whole x) e j }
 
 -- ---- a sequent is as true as all its premises, and as wide as they are together
 
-pub truth_premises : (σ : ℕ) (s : Side) (i : ℕ) (x : Compound) (S : Sequent) → Due S s i x → truth σ S ≡ fold ALL (truth σ) (premises s i x S)
+pub truth_premises : (σ : ℕ) (s : Side) (i : ℕ) (x : Compound) (S : Sequent) → Holds S s i x → truth σ S ≡ fold ALL (truth σ) (premises s i x S)
 truth_premises σ s i x S h = over_premises ALL ANY ALL_ANY (says σ) s i x S (put_back s i x S h) (truth_rule σ s x.connective x.f x.g)
 
-pub width_premises : (s : Side) (i : ℕ) (x : Compound) (S : Sequent) → Due S s i x → W S ≡ fold SUM W (premises s i x S)
+pub width_premises : (s : Side) (i : ℕ) (x : Compound) (S : Sequent) → Holds S s i x → W S ≡ fold SUM W (premises s i x S)
 width_premises s i x S h = over_premises SUM PRODUCT SUM_PRODUCT width s i x S (put_back s i x S h) (width_rule s x.connective x.f x.g)
 
 -- ---- each premise is smaller
@@ -78,7 +78,7 @@ weight_size S = omega (arith, fold_add (λ x. 1) connectives S.on_left, fold_add
 abbrev pub Smaller : Sequent → Sequent → Type 0
 Smaller S P = (1 + c P ≤ c S) × (size P + c P ≤ size S + c S)
 
-pub smaller : (s : Side) (i : ℕ) (x : Compound) (S : Sequent) → Due S s i x → Each (Smaller S) (premises s i x S)
+pub smaller : (s : Side) (i : ℕ) (x : Compound) (S : Sequent) → Holds S s i x → Each (Smaller S) (premises s i x S)
 smaller s i x S h = each_map (parts s (whole x)) (Smaller S) (premise s i S) one (reduct s x) (parts_rule s x.connective x.f x.g)
   where
     all : (f : Side → Formula → ℕ) → over SUM f S ≡ over SUM f (premise s i S []) + f s (whole x)

@@ -18,7 +18,7 @@ use Rattle.calculus.specs.Fold.{fold, ANY, SUM, Each, choose}
 use Rattle.calculus.specs.Syntax.{Connective, NOT, two, Formula, letter, neg, join, Compound, compound, whole, Sequent, connectives, c}
 use Rattle.calculus.specs.Truth.{bit, value, says, truth}
 use Rattle.calculus.specs.Bytes.{same}
-use Rattle.calculus.specs.Table.{Due, premises}
+use Rattle.calculus.specs.Table.{Holds, premises}
 use Rattle.calculus.specs.Tree.{letters, among, lower, common, next, equal_to, partner, Twins, unlike, alike, nearest, twins, Way, lettered, paired, either, closing, closing_by_letter, light, state, First, missing, here, later, first, Step, closed, opened, reduced, tests, step_by, step, reduce, Tree, chain, under, grow, leaf, grow_by, tree_by, tree}
 use Rattle.calculus.specs.Derivation.{Pairs}
 use Rattle.calculus.proofs.Folds.{or_elim, not_so, each}
@@ -292,7 +292,7 @@ open_false S h a b =
 abbrev pub Right_step : Sequent → Step → Type 0
 Right_step S (closed w) = Closed S w
 Right_step S (opened σ) = truth σ S ≡ false
-Right_step S (reduced s i x) = Due S s i x
+Right_step S (reduced s i x) = Holds S s i x
 
 -- a closing test is sound: where it says no, no letter stands on both sides
 abbrev pub Tested : Sequent → Option Way → Type 0
@@ -344,7 +344,7 @@ grow_same r q S h (reduced s i x) p =
     (each (Smaller S) (λ P. r P ≡ q P) h (premises s i x S) (smaller s i x S p)))
 
 -- where no connective is left, the tests find no compound
-pub no_compound : (xs : List Formula) → fold SUM connectives xs ≡ 0 → first xs ≡ missing
+no_compound : (xs : List Formula) → fold SUM connectives xs ≡ 0 → first xs ≡ missing
 no_compound [] e = refl
 no_compound (letter k ∷ xs) e = ap later (no_compound xs (omega arith))
 no_compound (neg x ∷ xs) e = absurd (omega arith)

@@ -8,7 +8,7 @@ use Rattle.calculus.specs.Fold.{find, choose}
 use Rattle.calculus.specs.Limits.{CUT_SHORT, UNKNOWN_COMMAND, NO_FORMULA, OTHER_CONNECTIVE, NOT_CLOSED, BYTES_AFTER, NOT_EQUAL}
 use Rattle.calculus.specs.Syntax.{AND, OR, IMPLIES, EQUIV, Connective, NOT, two, Formula, letter, neg, join, Compound, whole, Sequent, on_side}
 use Rattle.calculus.specs.Bytes.{CONNECTIVE, code, same}
-use Rattle.calculus.specs.Table.{Due, premises}
+use Rattle.calculus.specs.Table.{Holds, premises}
 use Rattle.calculus.specs.Tree.{letters, among, lettered, paired, Event, close, reduce, tree}
 
 -- ---- commands: a byte and its operand, or two operands
@@ -77,7 +77,8 @@ mutual
   pub data Derivation : Sequent → List ℕ → Type 0 where
     by_letter : {S : Sequent} {ds : List ℕ} (k : ℕ) → Closes k S → ds ≡ order_code CLOSE ∷ k ∷ [] → Derivation S ds
     by_pair : {S : Sequent} {ds : List ℕ} (i j : ℕ) → Pairs i j S → ds ≡ order_code PAIR ∷ i ∷ j ∷ [] → Derivation S ds
-    by_rule : {S : Sequent} {ds es : List ℕ} (s : Side) (i : ℕ) (x : Compound) → Due S s i x → Derivations (premises s i x S) es → ds ≡ order_code (REDUCE s x.connective) ∷ i ∷ es → Derivation S ds
+    by_rule : {S : Sequent} {ds es : List ℕ} (s : Side) (i : ℕ) (x : Compound) → Holds S s i x → Derivations (premises s i x S) es
+        → ds ≡ order_code (REDUCE s x.connective) ∷ i ∷ es → Derivation S ds
 
   pub data Derivations : List Sequent → List ℕ → Type 0 where
     none_left : Derivations [] []

@@ -34,7 +34,7 @@ pub record Limits : Type 0 where
 abbrev pub LIMITS : Limits
 LIMITS = record { longest = LONGEST; formulas = FORMULAS; connectives = CONNECTIVES; letters = LETTERS }
 
--- the formulas of a running sequent: as many as both sides have, and one for each connective
+-- the formulas of a running sequent: as many as both sides may have, and one for each connective
 abbrev pub room : Limits → ℕ
 room L = 2 * L.formulas + L.connectives
 

@@ -6,12 +6,12 @@ use Rattle.calculus.specs.declared.Side.{Side}
 use Rattle.calculus.specs.Limits.{Limits, LIMITS}
 use Rattle.calculus.specs.Syntax.{Compound, Sequent}
 use Rattle.calculus.specs.Bytes.{WithinUnder}
-use Rattle.calculus.specs.Table.{Due, premises}
+use Rattle.calculus.specs.Table.{Holds, premises}
 
--- by reductions in any order: any side, any place that holds a compound, any premise
+-- by reductions in any order, closed or not: any side, any place that holds a compound, any premise
 pub data Reached (S : Sequent) : Sequent → Type 0 where
   here : Reached S S
-  from : {P : Sequent} (T : Sequent) → Reached S T → (s : Side) (i : ℕ) (x : Compound) → Due T s i x
+  from : {P : Sequent} (T : Sequent) → Reached S T → (s : Side) (i : ℕ) (x : Compound) → Holds T s i x
       → (n : ℕ) → get_elem? (premises s i x T) n ≡ some P → Reached S P
 
 -- reached from a question within these limits

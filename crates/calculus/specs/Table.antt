@@ -53,9 +53,9 @@ premise Right i S ps = record { on_left = S.on_left ++ on Left ps; on_right = sp
 abbrev pub reduct : Side → Compound → List (List (Put Formula))
 reduct s x = map (map (fill x.f x.g)) (table x.connective s)
 
--- x stands on side s at place i
-abbrev pub Due : Sequent → Side → ℕ → Compound → Type 0
-Due S s i x = get_elem? (on_side s S) i ≡ some (whole x)
+-- S holds x on side s at place i
+abbrev pub Holds : Sequent → Side → ℕ → Compound → Type 0
+Holds S s i x = get_elem? (on_side s S) i ≡ some (whole x)
 
 -- a reduction turns one running sequent into the next, or into two
 abbrev pub premises : Side → ℕ → Compound → Sequent → List Sequent

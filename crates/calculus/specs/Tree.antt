@@ -189,6 +189,12 @@ abbrev pub is_close : Event → ℕ
 is_close (close w) = 1
 is_close (reduce s i k) = 0
 
+-- 1 where a sequent is open
+abbrev pub open_one : Kind → ℕ
+open_one Theorem = 0
+open_one (Refuted σ) = 1
+open_one Spent = 0
+
 -- those by equal formulas
 abbrev pub is_pair : Event → ℕ
 is_pair (close (lettered k)) = 0

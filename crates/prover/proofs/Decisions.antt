@@ -13,9 +13,9 @@ use Rattle.calculus.specs.Syntax.{Sequent}
 use Rattle.calculus.specs.Bytes.{question}
 use Rattle.calculus.specs.Reading.{accepted, reading}
 use Rattle.calculus.specs.Tree.{tree, reductions, outcome, verdict}
-use Rattle.calculus.proofs.Bounds.{theorem_true, theorem_exactly, refuted_false, reductions_bound, closings_bound, early}
+use Rattle.calculus.proofs.Bounds.{theorem_true, theorem_exactly, refuted_false, reductions_bound, closings_bound}
 use Rattle.calculus.proofs.Budgets.{spent_exactly, spent_verdict, whole_verdict, spend_left}
-use Rattle.prover.specs.Answers.{Truthful, open_one, Counted, Promised}
+use Rattle.prover.specs.Answers.{Truthful, Counted, Promised}
 
 -- The verdict is Spent, or it is the tree's.
 kinds : {Q : Type 0} (b : ℕ) (S : Sequent) → ((verdict b S).kind ≡ Spent → Q) → ((verdict b S).kind ≡ (tree S).end → Q) → Q
@@ -43,16 +43,11 @@ counted : (b : ℕ) (S : Sequent) → Counted S b (verdict b S)
 counted b S =
     record {
       reductions_bound = reductions_bound S;
-      closings_bound = omega (arith, closings_bound S, open_early (tree S).end);
+      closings_bound = closings_bound S;
       spent_exactly = spent_exactly b S;
       spent = spent_verdict b S;
       otherwise = whole_verdict b S;
     }
-  where
-    open_early : (k : Kind) → open_one k ≤ early k
-    open_early Theorem = omega arith
-    open_early (Refuted σ) = omega arith
-    open_early Spent = omega arith
 
 -- ---- the answers
 

@@ -7,7 +7,7 @@ use Rattle.calculus.specs.Syntax.{Sequent, c}
 use Rattle.calculus.specs.Bytes.{question}
 use Rattle.calculus.specs.Reading.{accepted, reading}
 use Rattle.calculus.specs.Truth.{Valid, Refutes}
-use Rattle.calculus.specs.Tree.{tree, reductions, closings, closings_before}
+use Rattle.calculus.specs.Tree.{tree, open_one, reductions, closings, closings_before}
 use Rattle.calculus.specs.Width.{W}
 use Rattle.calculus.specs.Reply.{Reply, verdict_reply}
 use Rattle.question.specs.declared.Refusal.{Refusal}
@@ -23,12 +23,6 @@ pub record Truthful (S : Sequent) (v : Verdict) : Type 0 where
   pub sound : v.kind ≡ Theorem → Valid S
   pub complete : v.kind ≢ Spent → Valid S → v.kind ≡ Theorem
   pub refutes : (σ : ℕ) → v.kind ≡ Refuted σ → Refutes σ S
-
--- 1 where a sequent is open
-abbrev pub open_one : Kind → ℕ
-open_one Theorem = 0
-open_one (Refuted σ) = 1
-open_one Spent = 0
 
 -- demand 3, with r the reductions and k the closings of the tree
 pub record Counted (S : Sequent) (b : ℕ) (v : Verdict) : Type 0 where

@@ -10,7 +10,7 @@ use Rattle.calculus.specs.Fold.{fold, Each}
 use Rattle.calculus.specs.Limits.{LIMITS, ROOM, LETTERS, CONNECTIVES}
 use Rattle.calculus.specs.Syntax.{Connective, NOT, two, Formula, letter, neg, join, Compound, compound, whole, Seq, Sequent, on_side, c, size}
 use Rattle.calculus.specs.Bytes.{CONNECTIVE, code}
-use Rattle.calculus.specs.Table.{Due, premise, premises, table}
+use Rattle.calculus.specs.Table.{Holds, premise, premises, table}
 use Rattle.calculus.specs.Reached.{Reachable}
 use Rattle.calculus.specs.Tree.{letters, twins, unlike, alike, state, missing, here, later, first}
 use Rattle.calculus.specs.Derivation.{Pairs}
@@ -175,7 +175,7 @@ module _ (T items : List ℕ) (s : Running) (good : Good T items s) where
       compounded = compound_named T good.nodes good.used good.few (name_at t i (view s items)) known_at c
 
       -- the compound stands there
-      pub stands : Due (sequent_of T items s) t i (compound_at T t i (view s items))
+      pub stands : Holds (sequent_of T items s) t i (compound_at T t i (view s items))
       stands = formula_at_lem ∙ ap {B = Option Formula} some compounded.stands
 
       module _ (r : Reduction) (e : r ≡ reduction_at T t i (view s items)) where
@@ -227,7 +227,7 @@ module _ (T items : List ℕ) (s : Running) (good : Good T items s) where
   -- ---- a reduction that can be made
 
   module _ (r : Reduction) (can : Reducible T items s r) where
-    there : Due (sequent_of T items s) r.place.side r.place.at (compound_at T r.place.side r.place.at (view s items))
+    there : Holds (sequent_of T items s) r.place.side r.place.at (compound_at T r.place.side r.place.at (view s items))
     there = stands r.place.side r.place.at can.inside can.compound
 
     fewer : Each (λ P. 1 + c P ≤ c (sequent_of T items s)) (premises_at T items s r)

@@ -20,10 +20,10 @@ mod order;
 
 use calculus::{Pair, Side};
 pub use order::{NoOrder, Order};
-use question::{Binary, Connective, LETTERS};
+use question::{ALL_CONNECTIVES, ALL_FORMULAS, Binary, Connective, LETTERS};
 
 // The formulas that a running sequent holds at most.
-pub const ROOM: usize = 80;
+pub const ROOM: usize = 2 * ALL_FORMULAS + ALL_CONNECTIVES;
 
 // A side of a running sequent: how many formulas stand there, the letters among them, a bit each, and a set that holds the
 // compounds among them: it only grows, so it holds reduced ones too.
@@ -66,7 +66,7 @@ pub struct Running {
 }
 
 // The nodes of a question's compounds and the names of a sequent's formulas. The running sequent stays beside them, and so what
-// holds of all three (`Good`, `Clear`, `Roomy`, `Makes`, at most so many connectives) stays in clauses, here and in the crates
+// holds of all three (`Good`, `Clear`, `Reachable`, `Makes`) stays in clauses, here and in the crates
 // above: `Good` tells which formulas the names stand for, by how many nodes, and a ghost field takes only facts that have one
 // proof (it was tried).
 #[derive(Clone, Copy)]
@@ -98,8 +98,7 @@ pub struct Place {
     pub at: usize,
 }
 
-// The compound at a place, by its node. That a node holds a connective's command stays in `requires`: a ghost field would ask it
-// of `command` too, whose callers are asked nothing, and no function may ask for more than it did.
+// The compound at a place, by its node. That a node holds a connective's command is asked where the connective is read.
 #[derive(Clone, Copy)]
 pub struct Reduction {
     pub place: Place,
@@ -168,19 +167,12 @@ fn rule_of(k: Connective, side: Side) -> &'static [Placing]
 }
 
 impl Reduction {
-    // The command of the compound's connective: a node is one word, as naming searches for words.
-    fn command(self) -> u8
-        ensures { result ≡ self.node % 256 }
-    {
-        self.node.to_le_bytes()[0]
-    }
-
-    // The compound's connective: a node holds its command.
+    // The compound's connective, by its command: a node is one word, as naming searches for words.
     pub fn connective(self) -> Connective
         requires { (k : Defined) × (code (CONNECTIVE k) ≡ self.node % 256) }
         ensures { command_of result ≡ self.node % 256 }
     {
-        Connective::try_from(self.command()).unwrap()
+        Connective::try_from(self.node.to_le_bytes()[0]).unwrap()
     }
 
     // The row of the table that it goes by: where the parts go in each premise.
