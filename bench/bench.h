@@ -96,7 +96,7 @@ void sum_up(double *samples, int count, double *best, double *median);
 // Each round begins at another stack address, so that no single layout decides.
 #define SHIFT_STACK(round) (*(volatile char *)__builtin_alloca(16 + (round) * 208 % 1024) = 0)
 
-// So many kinds of pass over a set take turns within a round. A pass answers whose it is: a peer's, or one of those above.
+// So many kinds of pass over a set take turns within a round. A pass answers whose it is: a peer's, OURS, BEFORE or DECIDE_CALL.
 typedef int set_pass(int kind, const question_set *set);
 peers_time time_passes(set_pass *pass, int kinds, const question_set *set, int rounds);
 

@@ -167,7 +167,8 @@ fn rules_as_clauses() {
     assert_eq!(compare(include_str!("answers/f.txt")), 700);
 }
 
+/// Deciding and deriving, once no call answers 8.
 #[test]
-fn no_number_8() {
+fn decided_and_derived() {
     assert_eq!(compare(include_str!("answers/g.txt")), 500);
 }

@@ -1,4 +1,6 @@
-//! How many formulas a sequent comes to hold when a question is reduced in any order: never over 80, and 80 it can be.
+//! How many formulas a sequent comes to hold when a question is reduced in any order: never more than its formulas and
+//! connectives together, so never over 80, and 80 it can be. That is tried with the tree written apart from the library;
+//! the library decides, derives and checks where there are 80.
 
 mod common;
 
@@ -22,7 +24,8 @@ fn side(connective: u8, letters: &[u8]) -> Vec<Vec<u8>> {
 }
 
 /// 16 formulas a side and 48 connectives, none of which has two premises there, so every order ends at 80 letters. On the
-/// left these are under 32, on the right from 32 on, but for the last one.
+/// left these are under 32, on the right from 32 on, but for the one that is given: the last chain's last, which the
+/// library's last reduction puts there.
 fn widest(last: u8) -> Vec<u8> {
     let lefts: Vec<u8> = (0..40).map(|k| k % 32).collect();
     let mut rights: Vec<u8> = lefts.iter().map(|k| k + 32).collect();
@@ -49,15 +52,19 @@ fn eighty_formulas() {
         let (kind, state, closings) = if theorem { (0, 0, 1) } else { (1, 0xffff_ffff, 0) };
         assert_eq!(calls::decide(&question, 48), (0, [kind, state, 48, closings]), "{}", last);
         assert_eq!(calls::decide(&question, 47), (9, [0, 0, 47, 0]), "{}", last);
-        assert_eq!(calls::derive(&question, 48, 98).0, if theorem { 0 } else { 10 }, "{}", last);
+        let tree = read.tree(48);
+        let (number, words, written) = calls::derive(&question, 48, 98);
+        assert_eq!((number, words), tree.derived(48, 98), "{}", last);
+        assert_eq!(written, if theorem { tree.derivation } else { vec![] }, "{}", last);
         // the right side first, and each side from its last chain on
         let derivation = [&reduced(0x64)[..], &reduced(0x53), &[0x41, last]].concat();
-        let number = if theorem { (0, [0]) } else { (24, [96]) };
-        assert_eq!(calls::check(&question, &derivation), number, "{}", last);
-        assert_eq!(order::check(&question, &derivation), (number.0, number.1[0]), "{}", last);
+        let (number, place) = if theorem { (0, 0) } else { (24, 96) };
+        assert_eq!(calls::check(&question, &derivation), (number, [place]), "{}", last);
+        assert_eq!(order::check(&question, &derivation), (number, place), "{}", last);
     }
 }
 
+/// The claim alone: this runs the tests' own tree.
 #[test]
 fn any_order() {
     let mut rng = Prng::new(73);

@@ -120,11 +120,6 @@ fn accepted(bytes: &[u8], question: &Question, table: &truth::Sequent, rng: &mut
     assert_eq!(calls::width(bytes), (0, [width as u64, c]), "width {:02x?}", bytes);
     assert_eq!(gekunday::width(bytes), Ok(gekunday::Width { width: width as u64, connectives: c }));
 
-    // by reductions in some other order
-    let mut order = Prng::new(seen.questions);
-    let held = question.most_formulas(|choices| order.below(choices));
-    assert!(held <= 80, "{} formulas from {:02x?}", held, bytes);
-
     let tree = question.tree(limit);
     if tree.end == End::Large {
         seen.large += 1;
