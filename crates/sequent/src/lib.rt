@@ -66,9 +66,8 @@ pub struct Running {
 }
 
 // The nodes of a question's compounds and the names of a sequent's formulas. The running sequent stays beside them, and so what
-// holds of all three (`Good`, `Clear`, `Reachable`, `Makes`) stays in clauses, here and in the crates
-// above: `Good` tells which formulas the names stand for, by how many nodes, and a ghost field takes only facts that have one
-// proof (it was tried).
+// holds of all three (`Good`, `Clear`, `Reachable`, `Makes`) stays in clauses, here and in the crates above: `Good` tells which
+// formulas the names stand for, by how many nodes, and a ghost field takes only facts that have one proof (it was tried).
 #[derive(Clone, Copy)]
 pub struct Names<'a> {
     pub nodes: &'a [u32],
