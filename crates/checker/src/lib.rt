@@ -125,9 +125,9 @@ fn formula_named(
     place: u8,
     at: usize,
 ) -> Result<Move, Fault>
-    requires { Good t.nodes.now t.items.now s }
+    requires { Good t.nodes.now.items t.items.now s }
     ensures { Moves
-        t.entry.nodes.now
+        t.entry.nodes.now.items
         t.entry.items.now
         s
         at
@@ -135,8 +135,8 @@ fn formula_named(
         side
         place
         (connective_of connective)
-        (sequent_of t.entry.nodes.now t.entry.items.now s)
-        (get_elem? (on_side side (sequent_of t.entry.nodes.now t.entry.items.now s)) place))
+        (sequent_of t.entry.nodes.now.items t.entry.items.now s)
+        (get_elem? (on_side side (sequent_of t.entry.nodes.now.items t.entry.items.now s)) place))
         result }
 {
     let p = Place {
@@ -159,15 +159,15 @@ fn formula_named(
 
 // Closed, if the formulas at a left and a right place are equal and no letters: equal formulas have one name.
 fn pairs(t: Names<'_>, s: Running, left: u8, right: u8, at: usize) -> Result<Move, Fault>
-    requires { Good t.nodes.now t.items.now s }
+    requires { Good t.nodes.now.items t.items.now s }
     ensures { Moves
-        t.entry.nodes.now
+        t.entry.nodes.now.items
         t.entry.items.now
         s
         at
         (pairs
-        (get_elem? (sequent_of t.entry.nodes.now t.entry.items.now s).on_left left)
-        (get_elem? (sequent_of t.entry.nodes.now t.entry.items.now s).on_right right))
+        (get_elem? (sequent_of t.entry.nodes.now.items t.entry.items.now s).on_left left)
+        (get_elem? (sequent_of t.entry.nodes.now.items t.entry.items.now s).on_right right))
         result }
 {
     let i = usize::from(left);
@@ -192,13 +192,13 @@ fn pairs(t: Names<'_>, s: Running, left: u8, right: u8, at: usize) -> Result<Mov
 
 // 42 at a place of the derivation, with its first operand.
 fn obey_pair(t: Names<'_>, d: &[u8], s: Running, left: u8, at: usize) -> Result<Move, Fault>
-    requires { Good t.nodes.now t.items.now s × (at + 2 ≤ length d.now) }
+    requires { Good t.nodes.now.items t.items.now s × (at + 2 ≤ length d.now) }
     ensures { Moves
-        t.entry.nodes.now
+        t.entry.nodes.now.items
         t.entry.items.now
         s
         at
-        (obey (some PAIR) left (get_elem? d.now (at + 2)) (sequent_of t.entry.nodes.now t.entry.items.now s))
+        (obey (some PAIR) left (get_elem? d.now (at + 2)) (sequent_of t.entry.nodes.now.items t.entry.items.now s))
         result }
 {
     if d.len() - at < 3 {
@@ -209,10 +209,11 @@ fn obey_pair(t: Names<'_>, d: &[u8], s: Running, left: u8, at: usize) -> Result<
 }
 
 // The command at a place of the derivation, where two bytes are left.
+#[inline(always)]
 fn obey(t: Names<'_>, d: &[u8], s: Running, at: usize) -> Result<Move, Fault>
-    requires { Good t.nodes.now t.items.now s × (at + 2 ≤ length d.now) }
+    requires { Good t.nodes.now.items t.items.now s × (at + 2 ≤ length d.now) }
     ensures { Moves
-        t.entry.nodes.now
+        t.entry.nodes.now.items
         t.entry.items.now
         s
         at
@@ -220,7 +221,7 @@ fn obey(t: Names<'_>, d: &[u8], s: Running, at: usize) -> Result<Move, Fault>
         (order (get_or d.now at 0))
         (get_or d.now (at + 1) 0)
         (get_elem? d.now (at + 2))
-        (sequent_of t.entry.nodes.now t.entry.items.now s))
+        (sequent_of t.entry.nodes.now.items t.entry.items.now s))
         result }
 {
     let operand = at + 1;
@@ -243,9 +244,10 @@ fn obey(t: Names<'_>, d: &[u8], s: Running, at: usize) -> Result<Move, Fault>
 // The derivation of one sequent, from byte `at` on: where it ends, or its first fault. A fault names its place in the whole
 // derivation, so both go along, and not the bytes from there on; one value of both would be made anew at each command.
 #[cycle(walk_walk_premise_walk_premises)]
+#[inline(always)]
 fn walk(t: Names<'_>, d: &[u8], s: Running, at: usize) -> Result<usize, Fault>
-    requires { Good t.nodes.now t.items.now s × Reachable (sequent_of t.nodes.now t.items.now s) × (at ≤ length d.now) }
-    ensures { Walks d.now (sequent_of t.entry.nodes.now t.entry.items.now s ∷ []) at result }
+    requires { Good t.nodes.now.items t.items.now s × Reachable (sequent_of t.nodes.now.items t.items.now s) × (at ≤ length d.now) }
+    ensures { Walks d.now (sequent_of t.entry.nodes.now.items t.entry.items.now s ∷ []) at result }
 {
     if d.len() - at < 2 {
         return Err(Fault::CutShort(at));
@@ -260,6 +262,7 @@ fn walk(t: Names<'_>, d: &[u8], s: Running, at: usize) -> Result<usize, Fault>
 
 // A premise of the reduction, made, and its derivation (`Running::premise` says why it goes on here).
 #[cycle(walk_walk_premise_walk_premises)]
+#[inline(never)]
 fn walk_premise(
     t: Names<'_>,
     d: &[u8],
@@ -268,9 +271,9 @@ fn walk_premise(
     p: Placing,
     at: usize,
 ) -> Counted<Result<usize, Fault>>
-    requires { Makes t.nodes.now t.items.now s r p × (at ≤ length d.now) }
-    ensures { Walks d.now (premise_by t.entry.nodes.now t.entry.items.now s r p ∷ []) at result.value
-        × (result.stores ≡ size (premise_by t.entry.nodes.now t.entry.items.now s r p)) }
+    requires { Makes t.nodes.now.items t.items.now s r p × (at ≤ length d.now) }
+    ensures { Walks d.now (premise_by t.entry.nodes.now.items t.entry.items.now s r p ∷ []) at result.value
+        × (result.stores ≡ size (premise_by t.entry.nodes.now.items t.entry.items.now s r p)) }
 {
     let mut next = [0; ROOM];
     let made = s.premise(t.items, &mut next, r, p);
@@ -283,6 +286,7 @@ fn walk_premise(
 
 // The derivation of the first premise, then that of the second.
 #[cycle(walk_walk_premise_walk_premises)]
+#[inline(always)]
 fn walk_premises(
     t: Names<'_>,
     d: &[u8],
@@ -290,11 +294,11 @@ fn walk_premises(
     r: Reduction,
     at: usize,
 ) -> Counted<Result<usize, Fault>>
-    requires { Good t.nodes.now t.items.now s
-        × Reachable (sequent_of t.nodes.now t.items.now s)
-        × Reducible t.nodes.now t.items.now s r
+    requires { Good t.nodes.now.items t.items.now s
+        × Reachable (sequent_of t.nodes.now.items t.items.now s)
+        × Reducible t.nodes.now.items t.items.now s r
         × (at ≤ length d.now) }
-    ensures { Tallied d.now (premises_at t.entry.nodes.now t.entry.items.now s r) at result }
+    ensures { Tallied d.now (premises_at t.entry.nodes.now.items t.entry.items.now s r) at result }
 {
     let rule = r.rule();
     let mut end = at;

@@ -40,10 +40,10 @@ impl Lists {
 
     // The same, lent.
     pub fn names(&self) -> Names<'_>
-        ensures { (result.nodes.now ≡ self.now.nodes.items) × (result.items.now ≡ self.now.items) }
+        ensures { (result.nodes.now.items ≡ self.now.nodes.items) × (result.items.now ≡ self.now.items) }
     {
         Names {
-            nodes: self.nodes.as_slice(),
+            nodes: &self.nodes,
             items: &self.items,
         }
     }

@@ -34,11 +34,11 @@ pub enum Finding {
 
 // The tests at a sequent whose first compound is at a place of a side: SPENT, then the reduction.
 fn due_at(t: Names<'_>, s: Running, p: Place, left: u64) -> Finding
-    requires { Good t.nodes.now t.items.now s × FoundAt (view s t.items.now) p.side p.at }
-    ensures { (inner_of t.entry.nodes.now (view s t.entry.items.now) result
+    requires { Good t.nodes.now.items t.items.now s × FoundAt (view s t.items.now) p.side p.at }
+    ensures { (inner_of t.entry.nodes.now.items (view s t.entry.items.now) result
         ≡ afford left
-        (reduced p.side p.at (compound_at t.entry.nodes.now p.side p.at (view s t.entry.items.now))))
-        × Ready t.entry.nodes.now t.entry.items.now s left result }
+        (reduced p.side p.at (compound_at t.entry.nodes.now.items p.side p.at (view s t.entry.items.now))))
+        × Ready t.entry.nodes.now.items t.entry.items.now s left result }
 {
     if left == 0 {
         return Finding::Spent;
@@ -48,10 +48,10 @@ fn due_at(t: Names<'_>, s: Running, p: Place, left: u64) -> Finding
 
 // The tests at a sequent that is not closed.
 fn first_due(t: Names<'_>, s: Running, from: usize, left: u64) -> Finding
-    requires { Good t.nodes.now t.items.now s
+    requires { Good t.nodes.now.items t.items.now s
         × Clear from t.items.now s
-        × (closing (sequent_of t.nodes.now t.items.now s) ≡ none) }
-    ensures { Stepped t.entry.nodes.now t.entry.items.now s left result }
+        × (closing (sequent_of t.nodes.now.items t.items.now s) ≡ none) }
+    ensures { Stepped t.entry.nodes.now.items t.entry.items.now s left result }
 {
     match s.first_compound(t.items, from) {
         Some(p) => due_at(t, s, p, left),
@@ -61,9 +61,10 @@ fn first_due(t: Names<'_>, s: Running, from: usize, left: u64) -> Finding
 
 // The inner step: one sequent through the tests in their order, with the reductions left. Its answer says what is due and
 // does nothing, so that no run made from it goes on after SPENT. Letters alone stand before place `from`.
+#[inline(always)]
 pub fn step(t: Names<'_>, s: Running, from: usize, left: u64) -> Finding
-    requires { Good t.nodes.now t.items.now s × Clear from t.items.now s }
-    ensures { Stepped t.entry.nodes.now t.entry.items.now s left result }
+    requires { Good t.nodes.now.items t.items.now s × Clear from t.items.now s }
+    ensures { Stepped t.entry.nodes.now.items t.entry.items.now s left result }
 {
     let shared = s.left.mask & s.right.mask;
     if shared != 0 {
@@ -89,11 +90,12 @@ fn ended(kind: Kind, left: u64, closings: u64, pairings: u64) -> Outcome
 // The run: reductions left go in and come out. That names and nodes are good, that letters stand before `from`, and that the
 // sequent is reached from a question, stay in clauses here and above (`sequent::Names` says why).
 #[cycle(reduce_run_run_premise)]
+#[inline(always)]
 fn run(t: Names<'_>, s: Running, from: usize, left: u64) -> Outcome
-    requires { Good t.nodes.now t.items.now s
+    requires { Good t.nodes.now.items t.items.now s
         × Clear from t.items.now s
-        × Reachable (sequent_of t.nodes.now t.items.now s) }
-    ensures { result ≡ outcome left (sequent_of t.entry.nodes.now t.entry.items.now s) }
+        × Reachable (sequent_of t.nodes.now.items t.items.now s) }
+    ensures { result ≡ outcome left (sequent_of t.entry.nodes.now.items t.entry.items.now s) }
 {
     match step(t, s, from, left) {
         Finding::Closed(_) => ended(Kind::Theorem, left, 1, 0),
@@ -106,10 +108,11 @@ fn run(t: Names<'_>, s: Running, from: usize, left: u64) -> Outcome
 
 // A premise of the reduction, made and run (`Running::premise` says why it goes on here).
 #[cycle(reduce_run_run_premise)]
+#[inline(never)]
 fn run_premise(t: Names<'_>, s: Running, r: Reduction, p: Placing, left: u64) -> Counted<Outcome>
-    requires { Makes t.nodes.now t.items.now s r p
+    requires { Makes t.nodes.now.items t.items.now s r p
         × FoundAt (view s t.items.now) r.place.side r.place.at }
-    ensures { Ran left (premise_by t.entry.nodes.now t.entry.items.now s r p) result }
+    ensures { Ran left (premise_by t.entry.nodes.now.items t.entry.items.now s r p) result }
 {
     let mut next = [0; ROOM];
     let made = s.premise(t.items, &mut next, r, p);
@@ -122,9 +125,10 @@ fn run_premise(t: Names<'_>, s: Running, r: Reduction, p: Placing, left: u64) ->
 
 // The reduction that is due: the first premise is finished, then the second is taken up.
 #[cycle(reduce_run_run_premise)]
+#[inline(always)]
 fn reduce(t: Names<'_>, s: Running, r: Reduction, left: u64) -> Counted<Outcome>
-    requires { First t.nodes.now t.items.now s r }
-    ensures { Comes left (premises_at t.entry.nodes.now t.entry.items.now s r) result }
+    requires { First t.nodes.now.items t.items.now s r }
+    ensures { Comes left (premises_at t.entry.nodes.now.items t.entry.items.now s r) result }
 {
     let rule = r.rule();
     let mut o = ended(Kind::Theorem, left, 0, 0);

@@ -1,6 +1,8 @@
 -- What a pass stores: runs of names one after the other.
 -- Assumes nothing.
-use Rattle.std.proofs.Common.{◌≡◌, sym, ap, subst, ◌∙◌, List, ◌++◌, append_assoc, ℕ, ◌+◌, arith, length, take, drop, length-append, drop-drop}
+use Rattle.std.proofs.Common.{◌≡◌, refl, sym, ap, subst, ◌∙◌, List, [], ◌++◌, append_assoc, append-nil, ℕ, ◌+◌, ◌≤◌, arith, length, take, drop, length-append, length-drop, length-take-le, drop-drop}
+use Rattle.std.proofs.lemmas.Slice.{take-put_mid, drop-put_mid}
+use borrow.Rule.Slice.PartMut.{put_mid, same_len_mid}
 use Rattle.sequent.specs.declared.Pass.{Pass}
 use Rattle.sequent.specs.Passes.{Stored}
 
@@ -37,3 +39,20 @@ skipped h s =
       stores = s.2 ∙ h.stores;
       from = omega (arith, s.0, h.from);
     }
+
+-- a part of the old list, all at once
+pub copied : (a : Pass) (e : ℕ) (xs ys l : List ℕ) (n : ℕ) → ys ≡ xs → n ≡ length xs → a.to + length xs ≤ length l
+    → Stored a (record { from = e; to = a.to + length xs; stores = a.stores + length xs }) e xs l (put_mid a.to n l ys)
+copied a e xs ys l n s k h =
+    rw s (record {
+      held = take-put_mid a.to n l xs (a.to + length xs) refl (omega arith);
+      behind = drop-put_mid a.to n l xs (a.to + length xs) (omega arith) (omega arith) (sym k);
+      size = same_len_mid a.to n l xs (sym k ∙ sym (length-take-le n (drop a.to l) (omega (arith, length-drop a.to l))));
+      to = refl;
+      stores = refl;
+      from = refl;
+    })
+
+-- nothing
+pub kept : (a : Pass) (l : List ℕ) → Stored a a a.from [] l l
+kept a l = record { held = sym (append-nil (take a.to l)); behind = refl; size = refl; to = omega arith; stores = omega arith; from = refl }

@@ -1,14 +1,15 @@
 -- A loop over the premises of a rule: what is left, and the stores so far.
 -- Assumes nothing.
-use Rattle.std.proofs.Common.{◌≡◌, sym, ap, ◌∙◌, None, List, [], ◌∷◌, map, ℕ, ◌+◌, ◌*◌, ◌≤◌, ◌<◌, add-one, arith, length, drop, get_or, drop_of_length-le, drop-cons}
+use Rattle.std.proofs.Common.{◌≡◌, sym, ap, ◌∙◌, List, [], ◌∷◌, map, ℕ, ◌+◌, ◌*◌, ◌≤◌, ◌<◌, add-one, arith, length, drop, get_or, drop_of_length-le, drop-cons}
 use Rattle.calculus.specs.Fold.{fold, SUM}
 use Rattle.calculus.specs.Limits.{ROOM}
 use Rattle.calculus.specs.Syntax.{Sequent, size}
 use Rattle.sequent.specs.declared.Placing.{Placing}
+use Rattle.sequent.specs.declared.Goes.TheVariants.{Nowhere}
 
 -- no part placed: what a loop reads past the end of a rule
 abbrev pub nowhere : Placing
-nowhere = record { f = None; g = None }
+nowhere = record { f = Nowhere; g = Nowhere }
 
 -- after j premises the next placing and the rest are left
 pub next : (r : List Placing) (j : ℕ) → j < length r → drop j r ≡ get_or r j nowhere ∷ drop (j + 1) r

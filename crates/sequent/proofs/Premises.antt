@@ -1,6 +1,6 @@
 -- The premise that one pass makes, and its stores.
 -- Assumes nothing.
-use Rattle.std.proofs.Common.{◌≡◌, refl, sym, ap, ◌∙◌, List, ◌++◌, append_assoc, ℕ, suc, ◌+◌, ◌-◌, ◌≤◌, ◌<◌, arith, length, take, drop, length-append, length-take, take-append-drop, take-add, take_at, take-take, drop_at, drop-drop, length-take-le}
+use Rattle.std.proofs.Common.{◌≡◌, refl, sym, ap, ◌∙◌, List, ◌++◌, append_assoc, ℕ, suc, ◌+◌, ◌-◌, ◌≤◌, ◌<◌, arith, bit_or, length, take, drop, length-append, length-take, take-append-drop, take-add, take_at, take-take, drop_at, drop-drop, length-take-le}
 use Rattle.std.proofs.Math.Seq.{slice, length-slice, drop-append-le}
 use Rattle.calculus.specs.declared.Side.{Side}
 use Rattle.calculus.specs.declared.Side.TheVariants.{Left, Right}
@@ -12,8 +12,9 @@ use Rattle.sequent.specs.Rule.{parts_on, placed}
 use Rattle.calculus.proofs.Folds.{ones}
 use Rattle.sequent.proofs.Lists.{on_left, on_right}
 use Rattle.sequent.specs.declared.Pass.{Pass}
+use Rattle.sequent.specs.declared.Half.{Half}
 use Rattle.sequent.specs.declared.Running.{Running}
-use Rattle.sequent.specs.View.{view, count_of, Joined}
+use Rattle.sequent.specs.View.{view, count_of, mask_of, set_of, letters_of, compounds_of, joined}
 use Rattle.sequent.specs.Passes.{Stored, listed, Builds}
 use Rattle.sequent.proofs.Passes.{pass}
 
@@ -141,15 +142,27 @@ module _ (s : Running) (old : List ℕ) (full : length old ≡ ROOM) (room : s.l
 
   module _ (t : Side) (h : at < count_of t s) {c : Pass} {l n : List ℕ} (stored : Stored (pass 0 0 0) c (s.left.count + s.right.count) (run t) l n)
       (k : ℕ) (e : k ≡ length (left_run t)) where
-    pub premise_made : length l ≡ ROOM → (r : Running) → Joined k (c.to - k) p f g s r → Builds t at p f g s old l n (record { value = r; stores = c.stores })
-    premise_made z r d =
-        record {
-          held = two_sides stored (left_run t) (right_run t) (run_sides t h) k e r d.on_left d.on_right ∙ sym (premise_runs t h);
-          stored = two_listed stored (left_run t) (right_run t) (run_sides t h) k e ∙ ap listed (sym (premise_runs t h));
-          behind = two_behind stored (left_run t) (right_run t) (run_sides t h) k e;
-          stores = two_stores stored (left_run t) (right_run t) (run_sides t h) k e ∙ ap size (sym (premise_runs t h));
-          counted = omega (arith, d.on_left, d.on_right, two_counts stored (left_run t) (right_run t) (run_sides t h) k e);
-          full = stored.size ∙ z;
-          masks = d.masks;
-          sets = d.sets;
-        }
+    module _ (lh rh : Half) (lefts : lh ≡ joined (parts_on Left p f g) s.left) (rights : rh ≡ joined (parts_on Right p f g) s.right) where
+      abbrev made : Running
+      made = record { left = record lh { count = k }; right = record rh { count = c.to - k } }
+
+      masks : (u : Side) → mask_of u made ≡ bit_or (mask_of u s) (letters_of (parts_on u p f g))
+      masks Left = ap (λ (h : Half). h.mask) lefts
+      masks Right = ap (λ (h : Half). h.mask) rights
+
+      sets : (u : Side) → set_of u made ≡ bit_or (set_of u s) (compounds_of (parts_on u p f g))
+      sets Left = ap (λ (h : Half). h.set) lefts
+      sets Right = ap (λ (h : Half). h.set) rights
+
+      pub premise_made : length l ≡ ROOM → Builds t at p f g s old l n (record { value = made; stores = c.stores })
+      premise_made z =
+          record {
+            held = two_sides stored (left_run t) (right_run t) (run_sides t h) k e made refl refl ∙ sym (premise_runs t h);
+            stored = two_listed stored (left_run t) (right_run t) (run_sides t h) k e ∙ ap listed (sym (premise_runs t h));
+            behind = two_behind stored (left_run t) (right_run t) (run_sides t h) k e;
+            stores = two_stores stored (left_run t) (right_run t) (run_sides t h) k e ∙ ap size (sym (premise_runs t h));
+            counted = two_counts stored (left_run t) (right_run t) (run_sides t h) k e;
+            full = stored.size ∙ z;
+            masks = masks;
+            sets = sets;
+          }

@@ -1,22 +1,24 @@
 -- What a row of the constant table says.
-use Rattle.std.specs.Prelude.{Bool, true, false, Option, Some, None, List, [], ◌∷◌, ◌++◌, map}
+use Rattle.std.specs.Prelude.{Bool, true, false, List, [], ◌∷◌, ◌++◌, map}
 use Rattle.calculus.specs.declared.Side.{Side}
 use Rattle.calculus.specs.declared.Side.TheVariants.{Left, Right}
 use Rattle.calculus.specs.Syntax.{Connective, Seq}
 use Rattle.calculus.specs.Table.{Part, F, G, Put, L, R, table, on}
 use Rattle.sequent.specs.declared.Placing.{Placing}
+use Rattle.sequent.specs.declared.Goes.{Goes}
+use Rattle.sequent.specs.declared.Goes.TheVariants.{Nowhere, Left as ToLeft, Right as ToRight}
 
 -- the side that a part goes to in a premise
-abbrev pub goes : Part → List (Put Part) → Option Side
-goes x [] = None
-goes F (L F ∷ ps) = Some Left
-goes F (R F ∷ ps) = Some Right
+abbrev pub goes : Part → List (Put Part) → Goes
+goes x [] = Nowhere
+goes F (L F ∷ ps) = ToLeft
+goes F (R F ∷ ps) = ToRight
 goes F (L G ∷ ps) = goes F ps
 goes F (R G ∷ ps) = goes F ps
 goes G (L F ∷ ps) = goes G ps
 goes G (R F ∷ ps) = goes G ps
-goes G (L G ∷ ps) = Some Left
-goes G (R G ∷ ps) = Some Right
+goes G (L G ∷ ps) = ToLeft
+goes G (R G ∷ ps) = ToRight
 
 abbrev pub placing : List (Put Part) → Placing
 placing ps = record { f = goes F ps; g = goes G ps }
@@ -26,12 +28,12 @@ abbrev pub rule_of : Connective → Side → List Placing
 rule_of k s = map placing (table k s)
 
 -- whether a part goes to a side
-abbrev pub goes_to : Side → Option Side → Bool
-goes_to s None = false
-goes_to Left (Some Left) = true
-goes_to Left (Some Right) = false
-goes_to Right (Some Left) = false
-goes_to Right (Some Right) = true
+abbrev pub goes_to : Side → Goes → Bool
+goes_to s Nowhere = false
+goes_to Left ToLeft = true
+goes_to Left ToRight = false
+goes_to Right ToLeft = false
+goes_to Right ToRight = true
 
 abbrev pub keep : {X : Type 0} → Bool → X → List X
 keep true x = x ∷ []

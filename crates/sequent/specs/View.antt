@@ -1,5 +1,5 @@
 -- What a running sequent stands for.
-use Rattle.std.specs.Prelude.{◌≡◌, true, Option, List, [], ◌∷◌, map, ℕ, ◌+◌, ◌%◌, ◌^◌, ◌≤◌, ltb, length, take, drop, get_or}
+use Rattle.std.specs.Prelude.{◌≡◌, true, List, [], ◌∷◌, map, ℕ, ◌+◌, ◌%◌, ◌^◌, ◌≤◌, ltb, length, take, drop, get_or}
 use Rattle.std.specs.Int.Bits.{bit_or}
 use Rattle.calculus.specs.declared.Side.{Side}
 use Rattle.calculus.specs.declared.Side.TheVariants.{Left, Right}
@@ -7,11 +7,9 @@ use Rattle.calculus.specs.Fold.{Each, choose}
 use Rattle.calculus.specs.Limits.{ROOM, LETTERS, CONNECTIVES}
 use Rattle.calculus.specs.Syntax.{Seq, Sequent, on_side}
 use Rattle.calculus.specs.Truth.{bit}
-use Rattle.sequent.specs.declared.Placing.{Placing}
 use Rattle.sequent.specs.declared.Half.{Half}
 use Rattle.sequent.specs.declared.Running.{Running}
 use Rattle.sequent.specs.Names.{formula_in, Known, Distinct}
-use Rattle.sequent.specs.Rule.{goes_to, keep, parts_on}
 
 -- ---- names in places
 
@@ -98,19 +96,9 @@ Covered s items = (t : Side) → Each (Member (set_of t s)) (on_side t (view s i
 abbrev pub grown : ℕ → Half → Half
 grown x h = record { count = h.count; mask = bit_or h.mask (bit_of x); set = bit_or h.set (compound_bit x) }
 
--- the bit of a part beside those of s, if it goes to a side, and as many places
-pub record With (to : Option Side) (name : ℕ) (s r : Running) : Type 0 where
-  pub on_left : r.left.count ≡ s.left.count
-  pub on_right : r.right.count ≡ s.right.count
-  pub masks : (t : Side) → mask_of t r ≡ bit_or (mask_of t s) (letters_of (keep (goes_to t to) name))
-  pub sets : (t : Side) → set_of t r ≡ bit_or (set_of t s) (compounds_of (keep (goes_to t to) name))
-
--- so many places on each side, and the letters and compounds of a premise's parts beside those of s
-pub record Joined (lefts rights : ℕ) (p : Placing) (f g : ℕ) (s r : Running) : Type 0 where
-  pub on_left : r.left.count ≡ lefts
-  pub on_right : r.right.count ≡ rights
-  pub masks : (t : Side) → mask_of t r ≡ bit_or (mask_of t s) (letters_of (parts_on t p f g))
-  pub sets : (t : Side) → set_of t r ≡ bit_or (set_of t s) (compounds_of (parts_on t p f g))
+-- and of names
+abbrev pub joined : List ℕ → Half → Half
+joined xs h = record { count = h.count; mask = bit_or h.mask (letters_of xs); set = bit_or h.set (compounds_of xs) }
 
 -- ---- what holds of one that a run or a check meets
 

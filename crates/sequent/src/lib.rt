@@ -12,12 +12,13 @@ ghost use Rattle.question.specs.Connectives.{connective_of, command_of};
 ghost use Rattle.sequent.specs.Names.{first_of, second_of};
 ghost use Rattle.sequent.specs.Rule.{rule_of, goes_to, keep, parts_on, placed};
 ghost use Rattle.sequent.specs.View.{view, count_of, slot_of, end_of, start_of};
-ghost use Rattle.sequent.specs.View.{grown, Covered, With, Joined, Good, name_at};
+ghost use Rattle.sequent.specs.View.{grown, joined, Covered, Good, name_at};
 ghost use Rattle.sequent.specs.Passes.{Fits, Stored, Builds};
 ghost use Rattle.sequent.specs.Compounds.{Clear, Found, Stands, Paired, rule_for, reduction_at};
 
 mod order;
 
+use arrayvec::ArrayVec;
 use calculus::{Pair, Side};
 pub use order::{NoOrder, Order};
 use question::{ALL_CONNECTIVES, ALL_FORMULAS, Binary, Connective, LETTERS};
@@ -70,15 +71,23 @@ pub struct Running {
 // formulas the names stand for, by how many nodes, and a ghost field takes only facts that have one proof (it was tried).
 #[derive(Clone, Copy)]
 pub struct Names<'a> {
-    pub nodes: &'a [u32],
+    pub nodes: &'a ArrayVec<u32, ALL_CONNECTIVES>,
     pub items: &'a [u8; ROOM],
 }
 
-// Where the two parts of a formula go in a premise, if anywhere.
+// The side that a part goes to in a premise, if any. An `Option<Side>` is two bytes, and each part's are read at both sides.
+#[derive(Clone, Copy)]
+pub enum Goes {
+    Nowhere,
+    Left,
+    Right,
+}
+
+// Where the two parts of a formula go in a premise.
 #[derive(Clone, Copy)]
 pub struct Placing {
-    pub f: Option<Side>,
-    pub g: Option<Side>,
+    pub f: Goes,
+    pub g: Goes,
 }
 
 // The names of a formula's two parts, and where they go in a premise.
@@ -113,6 +122,13 @@ pub struct Pass {
     pub stores: usize,
 }
 
+// A pass and the half of the side that it stores for: a part that it stores joins the half's letters or compounds.
+#[derive(Clone, Copy)]
+struct Growing {
+    pass: Pass,
+    half: Half,
+}
+
 // A value, and the stores made for it.
 #[derive(Clone, Copy)]
 pub struct Counted<T> {
@@ -120,11 +136,11 @@ pub struct Counted<T> {
     pub stores: usize,
 }
 
-const L: Option<Side> = Some(Side::Left);
+const L: Goes = Goes::Left;
 
-const R: Option<Side> = Some(Side::Right);
+const R: Goes = Goes::Right;
 
-const N: Option<Side> = None;
+const N: Goes = Goes::Nowhere;
 
 // The ten reductions, NOT to EQUIV, each on the left and on the right: where F and G go in each premise.
 static RULES: [[&[Placing]; 2]; 5] = [
@@ -191,11 +207,14 @@ impl Pass {
         requires { (self.from ≤ end) × (end ≤ Limits.ROOM) × Fits self (end - self.from) new.old }
         ensures { Stored self result end (slice self.from end old.now) new.old new.new }
     {
-        let mut a = self;
-        for &x in &old[self.from..end] {
-            a = a.put(new, x);
+        let names = &old[self.from..end];
+        let to = self.to + names.len();
+        new[self.to..to].copy_from_slice(names);
+        Pass {
+            from: end,
+            to,
+            stores: self.stores + names.len(),
         }
-        Pass { from: end, ..a }
     }
 
     // A name.
@@ -211,26 +230,6 @@ impl Pass {
         }
     }
 
-    // A part, if it goes to the side.
-    fn part(self, new: &mut [u8; ROOM], to: Option<Side>, side: Side, name: u8) -> Pass
-        requires { Fits self (length (keep (goes_to side to) name)) new.old }
-        ensures { Stored self result self.from (keep (goes_to side to) name) new.old new.new }
-    {
-        if to == Some(side) {
-            self.put(new, name)
-        } else {
-            self
-        }
-    }
-
-    // The parts that a premise puts on a side.
-    fn parts(self, new: &mut [u8; ROOM], side: Side, x: Parts) -> Pass
-        requires { Fits self (length (parts_on side x.p x.f x.g)) new.old }
-        ensures { Stored self result self.from (parts_on side x.p x.f x.g) new.old new.new }
-    {
-        self.part(new, x.p.f, side, x.f).part(new, x.p.g, side, x.g)
-    }
-
     // The formula that makes way.
     fn skip(self) -> Pass
         requires { self.from < Limits.ROOM }
@@ -240,6 +239,56 @@ impl Pass {
             from: self.from + 1,
             ..self
         }
+    }
+}
+
+impl Goes {
+    // Whether it goes to a side.
+    fn to(self, side: Side) -> bool
+        ensures { result ≡ goes_to side self }
+    {
+        matches!(
+            (self, side),
+            (Goes::Left, Side::Left) | (Goes::Right, Side::Right)
+        )
+    }
+}
+
+impl Growing {
+    // The old places up to one: their bits are in the half.
+    fn copy(self, old: &[u8; ROOM], new: &mut [u8; ROOM], end: usize) -> Growing
+        requires { (self.pass.from ≤ end) × (end ≤ Limits.ROOM) × Fits self.pass (end - self.pass.from) new.old }
+        ensures { Stored self.pass result.pass end (slice self.pass.from end old.now) new.old new.new × (result.half ≡ self.half) }
+    {
+        Growing {
+            pass: self.pass.copy(old, new, end),
+            ..self
+        }
+    }
+
+    // A part, if it goes to the side.
+    fn part(self, new: &mut [u8; ROOM], to: Goes, side: Side, name: u8) -> Growing
+        requires { Fits self.pass (length (keep (goes_to side to) name)) new.old }
+        ensures { Stored self.pass result.pass self.pass.from (keep (goes_to side to) name) new.old new.new
+            × (result.half ≡ joined (keep (goes_to side to) name) self.half) }
+    {
+        if to.to(side) {
+            Growing {
+                pass: self.pass.put(new, name),
+                half: self.half.with(name),
+            }
+        } else {
+            self
+        }
+    }
+
+    // The parts that a premise puts on a side.
+    fn parts(self, new: &mut [u8; ROOM], side: Side, x: Parts) -> Growing
+        requires { Fits self.pass (length (parts_on side x.p x.f x.g)) new.old }
+        ensures { Stored self.pass result.pass self.pass.from (parts_on side x.p x.f x.g) new.old new.new
+            × (result.half ≡ joined (parts_on side x.p x.f x.g) self.half) }
+    {
+        self.part(new, x.p.f, side, x.f).part(new, x.p.g, side, x.g)
     }
 }
 
@@ -295,76 +344,65 @@ impl Running {
     }
 
     // What is left up to a place, and the parts in place of the formula there.
-    fn replace(self, a: Pass, old: &[u8; ROOM], new: &mut [u8; ROOM], p: Place, x: Parts) -> Pass
+    fn replace(
+        self,
+        a: Growing,
+        old: &[u8; ROOM],
+        new: &mut [u8; ROOM],
+        p: Place,
+        x: Parts,
+    ) -> Growing
         requires { (p.at < count_of p.side self)
             × (self.left.count + self.right.count ≤ Limits.ROOM)
-            × (a.from ≤ slot_of p.side p.at self)
-            × Fits a (slot_of p.side p.at self - a.from + length (parts_on p.side x.p x.f x.g)) new.old }
+            × (a.pass.from ≤ slot_of p.side p.at self)
+            × Fits
+            a.pass
+            (slot_of p.side p.at self - a.pass.from + length (parts_on p.side x.p x.f x.g))
+            new.old }
         ensures { Stored
-            a
-            result
+            a.pass
+            result.pass
             (slot_of p.side p.at self + 1)
-            (slice a.from (slot_of p.side p.at self) old.now ++ parts_on p.side x.p x.f x.g)
+            (slice a.pass.from (slot_of p.side p.at self) old.now ++ parts_on p.side x.p x.f x.g)
             new.old
-            new.new }
+            new.new
+            × (result.half ≡ joined (parts_on p.side x.p x.f x.g) a.half) }
     {
         let k = self.slot(p);
-        a.copy(old, new, k).parts(new, p.side, x).skip()
+        let b = a.copy(old, new, k).parts(new, p.side, x);
+        Growing {
+            pass: b.pass.skip(),
+            ..b
+        }
     }
 
     // What is left up to the end of a side, and the parts behind it.
-    fn append(self, a: Pass, old: &[u8; ROOM], new: &mut [u8; ROOM], side: Side, x: Parts) -> Pass
-        requires { (a.from ≤ end_of side self)
+    fn append(
+        self,
+        a: Growing,
+        old: &[u8; ROOM],
+        new: &mut [u8; ROOM],
+        side: Side,
+        x: Parts,
+    ) -> Growing
+        requires { (a.pass.from ≤ end_of side self)
             × (self.left.count + self.right.count ≤ Limits.ROOM)
-            × Fits a (end_of side self - a.from + length (parts_on side x.p x.f x.g)) new.old }
+            × Fits a.pass (end_of side self - a.pass.from + length (parts_on side x.p x.f x.g)) new.old }
         ensures { Stored
-            a
-            result
+            a.pass
+            result.pass
             (end_of side self)
-            (slice a.from (end_of side self) old.now ++ parts_on side x.p x.f x.g)
+            (slice a.pass.from (end_of side self) old.now ++ parts_on side x.p x.f x.g)
             new.old
-            new.new }
+            new.new
+            × (result.half ≡ joined (parts_on side x.p x.f x.g) a.half) }
     {
         let k = self.end(side);
         a.copy(old, new, k).parts(new, side, x)
     }
 
-    // With a part's bits, if it goes to a side.
-    fn with(self, to: Option<Side>, name: u8) -> Running
-        ensures { With to name self result }
-    {
-        match to {
-            Some(Side::Left) => Running {
-                left: self.left.with(name),
-                ..self
-            },
-            Some(Side::Right) => Running {
-                right: self.right.with(name),
-                ..self
-            },
-            None => self,
-        }
-    }
-
-    // A premise with so many formulas on each side: the letters and the compounds among its parts join those of their sides.
-    fn joined(self, lefts: usize, rights: usize, x: Parts) -> Running
-        ensures { Joined lefts rights x.p x.f x.g self result }
-    {
-        Running {
-            left: Half {
-                count: lefts,
-                ..self.left
-            },
-            right: Half {
-                count: rights,
-                ..self.right
-            },
-        }
-        .with(x.p.f, x.f)
-        .with(x.p.g, x.g)
-    }
-
     // The parts of the reduced side take the place, the others go to the end of their side.
+    #[inline(always)]
     fn build(self, old: &[u8; ROOM], new: &mut [u8; ROOM], p: Place, x: Parts) -> Counted<Running>
         requires { (p.at < count_of p.side self)
             × (self.left.count + self.right.count ≤ Limits.ROOM)
@@ -376,29 +414,49 @@ impl Running {
         ensures { Builds p.side p.at x.p x.f x.g self old.now new.old new.new result }
     {
         let n = self.left.count + self.right.count;
-        let start = Pass {
-            from: 0,
-            to: 0,
-            stores: 0,
+        let start = Growing {
+            pass: Pass {
+                from: 0,
+                to: 0,
+                stores: 0,
+            },
+            half: self.left,
         };
         match p.side {
             Side::Left => {
                 let l = self.replace(start, old, new, p, x);
-                let e = self.append(l, old, new, Side::Right, x);
-                let k = l.to + (self.left.count - l.from);
+                let next = Growing {
+                    half: self.right,
+                    ..l
+                };
+                let r = self.append(next, old, new, Side::Right, x);
+                let k = l.pass.to + (self.left.count - l.pass.from);
+                let left = Half { count: k, ..l.half };
+                let right = Half {
+                    count: r.pass.to - k,
+                    ..r.half
+                };
                 Counted {
-                    value: self.joined(k, e.to - k, x),
-                    stores: e.stores,
+                    value: Running { left, right },
+                    stores: r.pass.stores,
                 }
             }
             Side::Right => {
                 let l = self.append(start, old, new, Side::Left, x);
-                let r = self.replace(l, old, new, p, x);
-                let e = r.copy(old, new, n);
-                let k = l.to;
+                let next = Growing {
+                    half: self.right,
+                    ..l
+                };
+                let r = self.replace(next, old, new, p, x).copy(old, new, n);
+                let k = l.pass.to;
+                let left = Half { count: k, ..l.half };
+                let right = Half {
+                    count: r.pass.to - k,
+                    ..r.half
+                };
                 Counted {
-                    value: self.joined(k, e.to - k, x),
-                    stores: e.stores,
+                    value: Running { left, right },
+                    stores: r.pass.stores,
                 }
             }
         }
@@ -407,6 +465,7 @@ impl Running {
     // A premise of a reduction: the names of its two parts go where p says. The list is lent (fixed memory), and run, writer and
     // checker each go on from a premise by themselves: a closure in a cycle of calls has to state all that the call inside
     // states, so that one function for the three would say each contract once more.
+    #[inline(always)]
     pub fn premise(
         self,
         old: &[u8; ROOM],
@@ -463,16 +522,16 @@ impl Running {
 
     // How the compound at a place reduces.
     pub fn reduction(self, t: Names<'_>, p: Place) -> Reduction
-        requires { Good t.nodes.now t.items.now self
+        requires { Good t.nodes.now.items t.items.now self
             × (p.at < count_of p.side self)
             × (Limits.LETTERS ≤ name_at p.side p.at (view self t.items.now)) }
-        ensures { result ≡ reduction_at t.entry.nodes.now p.side p.at (view self t.entry.items.now) }
+        ensures { result ≡ reduction_at t.entry.nodes.now.items p.side p.at (view self t.entry.items.now) }
     {
         let k = self.slot(p);
         let n = usize::from(t.items[k] - LETTERS);
         Reduction {
             place: p,
-            node: t.nodes[n],
+            node: t.nodes.as_slice()[n],
         }
     }
 

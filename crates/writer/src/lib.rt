@@ -71,15 +71,16 @@ fn put_pair(out: &mut [u8], left: u8, right: u8) -> usize
 
 // The derivation of a theorem; answers its length. Letters alone stand before place `from`.
 #[cycle(emit_emit_premise_emit_premises)]
+#[inline(always)]
 fn emit(t: Names<'_>, s: Running, from: usize, out: &mut [u8]) -> usize
-    requires { Good t.nodes.now t.items.now s
+    requires { Good t.nodes.now.items t.items.now s
         × Clear from t.items.now s
-        × Reachable (sequent_of t.nodes.now t.items.now s)
-        × Provable (sequent_of t.nodes.now t.items.now s)
-        × (length (derivation (sequent_of t.nodes.now t.items.now s)) ≤ length out.old) }
-    ensures { (result ≡ length (derivation (sequent_of t.entry.nodes.now t.entry.items.now s)))
+        × Reachable (sequent_of t.nodes.now.items t.items.now s)
+        × Provable (sequent_of t.nodes.now.items t.items.now s)
+        × (length (derivation (sequent_of t.nodes.now.items t.items.now s)) ≤ length out.old) }
+    ensures { (result ≡ length (derivation (sequent_of t.entry.nodes.now.items t.entry.items.now s)))
         × (out.new
-        ≡ sets out.old 0 (derivation (sequent_of t.entry.nodes.now t.entry.items.now s))) }
+        ≡ sets out.old 0 (derivation (sequent_of t.entry.nodes.now.items t.entry.items.now s))) }
 {
     match prover::step(t, s, from, 1) {
         Finding::Closed(k) => put(out, Order::Close, k as u8),
@@ -95,6 +96,7 @@ fn emit(t: Names<'_>, s: Running, from: usize, out: &mut [u8]) -> usize
 
 // A premise of the reduction, made, and its derivation (`Running::premise` says why it goes on here).
 #[cycle(emit_emit_premise_emit_premises)]
+#[inline(never)]
 fn emit_premise(
     t: Names<'_>,
     s: Running,
@@ -102,13 +104,13 @@ fn emit_premise(
     p: Placing,
     out: &mut [u8],
 ) -> Counted<usize>
-    requires { Makes t.nodes.now t.items.now s r p
+    requires { Makes t.nodes.now.items t.items.now s r p
         × FoundAt (view s t.items.now) r.place.side r.place.at
-        × Provable (premise_by t.nodes.now t.items.now s r p)
-        × (length (derivation (premise_by t.nodes.now t.items.now s r p)) ≤ length out.old) }
+        × Provable (premise_by t.nodes.now.items t.items.now s r p)
+        × (length (derivation (premise_by t.nodes.now.items t.items.now s r p)) ≤ length out.old) }
     ensures { Emits
-        (derivation (premise_by t.entry.nodes.now t.entry.items.now s r p))
-        (size (premise_by t.entry.nodes.now t.entry.items.now s r p))
+        (derivation (premise_by t.entry.nodes.now.items t.entry.items.now s r p))
+        (size (premise_by t.entry.nodes.now.items t.entry.items.now s r p))
         out.old
         out.new
         result }
@@ -124,13 +126,14 @@ fn emit_premise(
 
 // The whole derivation of the first premise, then that of the second.
 #[cycle(emit_emit_premise_emit_premises)]
+#[inline(always)]
 fn emit_premises(t: Names<'_>, s: Running, r: Reduction, out: &mut [u8]) -> Counted<usize>
-    requires { First t.nodes.now t.items.now s r
-        × Each Provable (premises_at t.nodes.now t.items.now s r)
-        × (length (derivations (premises_at t.nodes.now t.items.now s r)) ≤ length out.old) }
+    requires { First t.nodes.now.items t.items.now s r
+        × Each Provable (premises_at t.nodes.now.items t.items.now s r)
+        × (length (derivations (premises_at t.nodes.now.items t.items.now s r)) ≤ length out.old) }
     ensures { Emits
-        (derivations (premises_at t.entry.nodes.now t.entry.items.now s r))
-        (fold SUM size (premises_at t.entry.nodes.now t.entry.items.now s r))
+        (derivations (premises_at t.entry.nodes.now.items t.entry.items.now s r))
+        (fold SUM size (premises_at t.entry.nodes.now.items t.entry.items.now s r))
         out.old
         out.new
         result }

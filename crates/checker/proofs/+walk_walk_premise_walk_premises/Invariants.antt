@@ -8,13 +8,13 @@ use Rattle.checker.proofs.Walking.{Ahead}
 use Rattle.checker.proofs.+walk_walk_premise_walk_premises.Given as goal
 
 abbrev pub decreases-walk : goal.decreases-walk
-decreases-walk l = 3 * connectives (sequent_of l.t.nodes.now l.t.items.now l.s) + 2
+decreases-walk l = 3 * connectives (sequent_of l.t.nodes.now.items l.t.items.now l.s) + 2
 
 abbrev pub decreases-walk_premise : goal.decreases-walk_premise
-decreases-walk_premise l = 3 * connectives (sequent_of l.t.nodes.now l.t.items.now l.s)
+decreases-walk_premise l = 3 * connectives (sequent_of l.t.nodes.now.items l.t.items.now l.s)
 
 abbrev pub decreases-walk_premises : goal.decreases-walk_premises
-decreases-walk_premises l = 3 * connectives (sequent_of l.t.nodes.now l.t.items.now l.s) + 1
+decreases-walk_premises l = 3 * connectives (sequent_of l.t.nodes.now.items l.t.items.now l.s) + 1
 
 abbrev pub invariant-walk_premises-loop-p : goal.invariant-walk_premises-loop-p
-invariant-walk_premises-loop-p l = Ahead l.d (premise_by l.t.nodes.now l.t.items.now l.s l.r) l.rule l.at l.p-index l.end l.stores
+invariant-walk_premises-loop-p l = Ahead l.d (premise_by l.t.nodes.now.items l.t.items.now l.s l.r) l.rule l.at l.p-index l.end l.stores

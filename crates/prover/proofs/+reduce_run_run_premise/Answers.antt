@@ -14,7 +14,7 @@ pub reduce-rule-rule-requires : goal.reduce-rule-rule-requires
 reduce-rule-rule-requires t c =
     let a = c.args in
     let h = c.requires in
-    ((compound_at a.t.nodes.now a.r.place.side a.r.place.at (view a.s a.t.items.now)).connective, sym (command_made a.t.nodes.now a.t.items.now a.s h.good a.r h.can))
+    ((compound_at a.t.nodes.now.items a.r.place.side a.r.place.at (view a.s a.t.items.now)).connective, sym (command_made a.t.nodes.now.items a.t.items.now a.s h.good a.r h.can))
 
 pub reduce-loop-p-init : goal.reduce-loop-p-init
 reduce-loop-p-init t c =
@@ -64,7 +64,7 @@ run-returns-in-Reduce t c = c.reduce.ensures.outcome ∙ rw c.in-Reduce.is at (a
 pub run_premise-premise-made-requires : goal.run_premise-premise-made-requires
 run_premise-premise-made-requires t c =
     let a = c.args in
-    premise_asks a.t.nodes.now a.t.items.now a.s a.r a.p c.requires.0
+    premise_asks a.t.nodes.now.items a.t.items.now a.s a.r a.p c.requires.0
 
 pub run_premise-run-requires : goal.run_premise-run-requires
 run_premise-run-requires t c =

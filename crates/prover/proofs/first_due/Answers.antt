@@ -18,4 +18,4 @@ pub returns-in-None : goal.returns-in-None
 returns-in-None c =
     let a = c.args in
     let h = c.requires in
-    record { inner = inner_open h.0 a.left h.2 c.in-None.ensures a.s.left.mask (masks_state a.t.nodes.now a.t.items.now a.s h.0 Left); ready = tt }
+    record { inner = inner_open h.0 a.left h.2 c.in-None.ensures a.s.left.mask (masks_state a.t.nodes.now.items a.t.items.now a.s h.0 Left); ready = tt }

@@ -18,9 +18,9 @@ use Rattle.writer.proofs.+emit_emit_premise_emit_premises.Goals as goal
 pub emit-overflow_cast-k : goal.emit-overflow_cast-k
 emit-overflow_cast-k t c =
     let a = c.args in
-    let S = sequent_of a.t.nodes.now a.t.items.now a.s in
+    let S = sequent_of a.t.nodes.now.items a.t.items.now a.s in
     let low : a.s.left.mask < 2 ^ LETTERS = omega arith in
-    let small = rw (masks_state a.t.nodes.now a.t.items.now a.s c.requires.0 Left) at low in
+    let small = rw (masks_state a.t.nodes.now.items a.t.items.now a.s c.requires.0 Left) at low in
     omega (arith, closed_small S c.in-Closed.k c.in-Closed.ensures.inner small)
 
 pub emit-connective-requires : goal.emit-connective-requires
@@ -28,12 +28,12 @@ emit-connective-requires t c =
     let a = c.args in
     let r = c.in-Reduce.r in
     let w = c.in-Reduce.ensures.ready in
-    ((compound_at a.t.nodes.now r.place.side r.place.at (view a.s a.t.items.now)).connective, sym (command_made a.t.nodes.now a.t.items.now a.s c.requires.0 r w.can))
+    ((compound_at a.t.nodes.now.items r.place.side r.place.at (view a.s a.t.items.now)).connective, sym (command_made a.t.nodes.now.items a.t.items.now a.s c.requires.0 r w.can))
 
 pub emit-overflow_cast-r : goal.emit-overflow_cast-r
 emit-overflow_cast-r t c =
     let a = c.args in
-    omega (arith, place_small a.t.nodes.now a.t.items.now a.s c.requires.0 c.in-Reduce.r c.in-Reduce.ensures.ready.can)
+    omega (arith, place_small a.t.nodes.now.items a.t.items.now a.s c.requires.0 c.in-Reduce.r c.in-Reduce.ensures.ready.can)
 
 pub emit-put-n-requires : goal.emit-put-n-requires
 emit-put-n-requires t c = omega (arith, c.requires.4, due_long c.in-Reduce.ensures c.requires.3)
@@ -67,7 +67,7 @@ emit-returns-in-Reduce t c =
     let r = c.in-Reduce.r in
     let w = c.in-Reduce.ensures in
     let p = c.put-n in
-    let k = one_command c.connective.result _ (c.connective.ensures ∙ command_made a.t.nodes.now a.t.items.now a.s h.0 r w.ready.can) in
+    let k = one_command c.connective.result _ (c.connective.ensures ∙ command_made a.t.nodes.now.items a.t.items.now a.s h.0 r w.ready.can) in
     due_written w h.3 a.out.now h.4 _ (ap (λ (l : Connective). order_code (REDUCE r.place.side l)) k) p.result p.ensures.0 p.new.out p.ensures.1 c.emit_premises.ensures
 
 pub emit-unreachable-requires : goal.emit-unreachable-requires
@@ -80,7 +80,7 @@ emit-unreachable-requires t c =
 pub emit_premise-premise-made-requires : goal.emit_premise-premise-made-requires
 emit_premise-premise-made-requires t c =
     let a = c.args in
-    premise_asks a.t.nodes.now a.t.items.now a.s a.r a.p c.requires.0
+    premise_asks a.t.nodes.now.items a.t.items.now a.s a.r a.p c.requires.0
 
 pub emit_premise-emit-requires : goal.emit_premise-emit-requires
 emit_premise-emit-requires t c =
@@ -112,7 +112,7 @@ pub emit_premises-rule-rule-requires : goal.emit_premises-rule-rule-requires
 emit_premises-rule-rule-requires t c =
     let a = c.args in
     let h = c.requires.0 in
-    ((compound_at a.t.nodes.now a.r.place.side a.r.place.at (view a.s a.t.items.now)).connective, sym (command_made a.t.nodes.now a.t.items.now a.s h.good a.r h.can))
+    ((compound_at a.t.nodes.now.items a.r.place.side a.r.place.at (view a.s a.t.items.now)).connective, sym (command_made a.t.nodes.now.items a.t.items.now a.s h.good a.r h.can))
 
 pub emit_premises-loop-p-init : goal.emit_premises-loop-p-init
 emit_premises-loop-p-init t c =

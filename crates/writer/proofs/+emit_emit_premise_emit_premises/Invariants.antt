@@ -7,13 +7,13 @@ use Rattle.writer.proofs.Writes.{Ahead}
 use Rattle.writer.proofs.+emit_emit_premise_emit_premises.Given as goal
 
 abbrev pub decreases-emit : goal.decreases-emit
-decreases-emit l = 3 * connectives_of (sequent_of l.t.nodes.now l.t.items.now l.s) + 2
+decreases-emit l = 3 * connectives_of (sequent_of l.t.nodes.now.items l.t.items.now l.s) + 2
 
 abbrev pub decreases-emit_premise : goal.decreases-emit_premise
-decreases-emit_premise l = 3 * connectives_of (sequent_of l.t.nodes.now l.t.items.now l.s)
+decreases-emit_premise l = 3 * connectives_of (sequent_of l.t.nodes.now.items l.t.items.now l.s)
 
 abbrev pub decreases-emit_premises : goal.decreases-emit_premises
-decreases-emit_premises l = 3 * connectives_of (sequent_of l.t.nodes.now l.t.items.now l.s) + 1
+decreases-emit_premises l = 3 * connectives_of (sequent_of l.t.nodes.now.items l.t.items.now l.s) + 1
 
 abbrev pub invariant-emit_premises-loop-p : goal.invariant-emit_premises-loop-p
-invariant-emit_premises-loop-p l = Ahead l.t.nodes.now l.t.items.now l.s l.r l.rule l.initial.out l.p-index l.length l.stores l.out
+invariant-emit_premises-loop-p l = Ahead l.t.nodes.now.items l.t.items.now l.s l.r l.rule l.initial.out l.p-index l.length l.stores l.out
