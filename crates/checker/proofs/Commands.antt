@@ -23,7 +23,7 @@ use Rattle.calculus.proofs.Trees.{bit_state, Letter}
 use Rattle.calculus.proofs.Derivations.{named_whole, pairs_whole, equals_not}
 use Rattle.question.specs.declared.connective.Connective.{Connective as Named}
 use Rattle.question.specs.Connectives.{connective_of, command_of}
-use Rattle.question.proofs.Connectives.{one_command, same_connective}
+use Rattle.question.proofs.Connectives.{one_command}
 use Rattle.sequent.specs.declared.Running.{Running}
 use Rattle.sequent.specs.declared.Reduction.{Reduction}
 use Rattle.sequent.specs.Names.{formula_in}
@@ -95,21 +95,18 @@ module _ {T items : List ℕ} {s : Running} (good : Good T items s) where
         command : r.node % 256 ≡ code (CONNECTIVE x.connective)
         command = ap (λ (u : Reduction). u.node % 256) e ∙ (compounded T items s good t i h c).command
 
-        -- its node has a connective's command
-        pub named_there : (j : Connective) × (code (CONNECTIVE j) ≡ r.node % 256)
-        named_there = (x.connective, sym command)
-
-        module _ {j : Named} (d : command_of j ≡ r.node % 256) where
-          pub other_connective : (j ≡ k → ⊥) → Moves T items s at (At n) (Err (OtherConnective at))
-          other_connective z = operand (Err (OtherConnective at)) (stands_there ∙ by x.connective (ne_eqb _ _ (λ e. z (same_connective j k (d ∙ command ∙ sym e)))), refl)
+        -- the node's command, and that of the connective
+        module _ {b d : ℕ} (read_command : b ≡ r.node % 256) (due : d ≡ command_of k) where
+          pub other_connective : (b ≡ d → ⊥) → Moves T items s at (At n) (Err (OtherConnective at))
+          other_connective z = operand (Err (OtherConnective at)) (stands_there ∙ by x.connective (ne_eqb _ _ (λ e. z (read_command ∙ command ∙ sym e ∙ sym due))), refl)
             where
               by : (l : Connective) → eqb (command_of k) (code (CONNECTIVE l)) ≡ false → named t i (connective_of k) (sequent_of T items s) (some (compound l x.f x.g)) ≡ fault OTHER_CONNECTIVE
               by NOT e = rw e
               by (two o) e = rw e
 
-          pub reduces : j ≡ k → Moves T items s at (At n) (Ok (Reduce r))
+          pub reduces : b ≡ d → Moves T items s at (At n) (Ok (Reduce r))
           reduces same =
-              let l : connective_of k ≡ x.connective = one_command k x.connective (ap command_of (sym same) ∙ d ∙ command) in
+              let l : connective_of k ≡ x.connective = one_command k x.connective (sym due ∙ sym same ∙ read_command ∙ command) in
               operand (Ok (Reduce r)) (subst (λ (u : Reduction). Moves T items s at (At i) (Ok (Reduce u))) (sym e) (
                 stands_there ∙ ap (λ (l : Connective). named t i l (sequent_of T items s) (some (whole x))) l ∙ named_whole t i x (sequent_of T items s),
                 record { inside = h; compound = c; exact = refl },

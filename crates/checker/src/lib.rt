@@ -151,7 +151,7 @@ fn formula_named(
         return Err(Fault::OtherConnective(at));
     }
     let r = s.reduction(t, p);
-    if r.connective() != connective {
+    if r.command() != u8::from(connective) {
         return Err(Fault::OtherConnective(at));
     }
     Ok(Move::Reduce(r))

@@ -12,7 +12,6 @@ ghost use Rattle.question.specs.Connectives.{command_of};
 ghost use Rattle.question.specs.Positions.{formula_at, end_of};
 ghost use Rattle.sequent.specs.Names.{node, first_of, second_of};
 ghost use Rattle.sequent.specs.View.{sequent_of, Good};
-ghost use Rattle.sequent.specs.Compounds.{Stands};
 ghost use Rattle.names.specs.Loads.{Nodes, Noted, Numbers, Numbered, none_yet, Loads, Enters, before};
 
 use arrayvec::ArrayVec;

@@ -9,7 +9,7 @@ use Rattle.calculus.proofs.Spelling.{command_byte, code_injective}
 use Rattle.question.specs.declared.connective.Binary.{Binary}
 use Rattle.question.specs.declared.connective.Binary.TheVariants.{And, Or, Implies, Equiv}
 use Rattle.question.specs.declared.connective.Connective.{Connective}
-use Rattle.question.specs.declared.connective.Connective.TheVariants.{Not, Two}
+use Rattle.question.specs.declared.connective.Connective.TheVariants.{Two}
 use Rattle.question.specs.declared.connective.NoConnective.{NoConnective}
 use Rattle.question.specs.Connectives.{connective_of, command_of, coded, Names}
 use Rattle.question.proofs.Readers.{connects}
@@ -20,13 +20,6 @@ coded_is (two AND) = refl
 coded_is (two OR) = refl
 coded_is (two IMPLIES) = refl
 coded_is (two EQUIV) = refl
-
-pub is_coded : (j : Connective) → coded (connective_of j) ≡ j
-is_coded Not = refl
-is_coded (Two And) = refl
-is_coded (Two Or) = refl
-is_coded (Two Implies) = refl
-is_coded (Two Equiv) = refl
 
 -- the command of a connective is read
 pub reads : (b : ℕ) (r : Result Connective NoConnective) → Names b r → (k : Defined) → code (CONNECTIVE k) ≡ b → IsOk r
@@ -47,6 +40,3 @@ binary_range Equiv = omega arith
 -- a command is that of one connective
 pub one_command : (j : Connective) (k : Defined) → command_of j ≡ code (CONNECTIVE k) → connective_of j ≡ k
 one_command j k e = cc (code_injective (CONNECTIVE (connective_of j)) (CONNECTIVE k) e)
-
-pub same_connective : (j k : Connective) → command_of j ≡ command_of k → j ≡ k
-same_connective j k e = sym (is_coded j) ∙ ap coded (one_command j (connective_of k) e) ∙ is_coded k

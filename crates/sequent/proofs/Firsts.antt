@@ -1,25 +1,31 @@
--- The first compound among names, part by part.
+-- The first compound among names: where it stands, and part by part.
 -- Assumes nothing.
-use Rattle.std.proofs.Common.{◌≡◌, refl, sym, ap, ◌∙◌, Bool, true, false, List, [], ◌∷◌, ◌++◌, None, ℕ, suc, ◌+◌, ◌-◌, ◌≤◌, ◌<◌, add-one, arith, ltb, length, take, drop, get_or, length-drop, take-append-drop, take-add, take-take, length-take-le, le-ltb, ltb-true, ltb-false}
-use Rattle.std.proofs.Math.Seq.{slice, slice-cons, slice_empty}
+use Rattle.std.proofs.Common.{◌≡◌, refl, sym, ap, ◌∙◌, Bool, true, false, List, [], ◌∷◌, ◌++◌, None, ℕ, zero, suc, ◌+◌, ◌-◌, ◌≤◌, ◌<◌, arith, ltb, length, take, drop, get_or, length-drop, take-add, length-take-le, le-ltb, ltb-true, ltb-false}
 use Rattle.calculus.specs.declared.Side.TheVariants.{Left, Right}
 use Rattle.calculus.specs.Fold.{choose}
 use Rattle.calculus.specs.Limits.{ROOM, LETTERS}
 use Rattle.sequent.specs.declared.Running.{Running}
 use Rattle.sequent.specs.View.{view}
-use Rattle.sequent.specs.Compounds.{first_in, FoundAt, Found}
+use Rattle.sequent.specs.Compounds.{first_in, Clear, FoundAt, Found}
 
--- ---- a name more
+-- ---- where the first stands
 
-module _ (l : List ℕ) (i n : ℕ) (h : i < n) (k : n ≤ length l) where
-  opened : first_in (slice i n l) ≡ choose (ltb (get_or l i 0) LETTERS) (suc (first_in (slice (i + 1) n l))) 0
-  opened = ap first_in (slice-cons i n l 0 h k ∙ ap (λ (m : ℕ). get_or l i 0 ∷ slice m n l) (sym (add-one i)))
+pub first_stands : (xs : List ℕ) (j : ℕ) → j < length xs → LETTERS ≤ get_or xs j 0 → ((k : ℕ) → k < j → LETTERS ≤ get_or xs k 0 → ⊥) → first_in xs ≡ j
+first_stands [] j h c none = absurd (omega arith)
+first_stands (x ∷ xs) zero h c none = rw (le-ltb x LETTERS c) refl
+first_stands (x ∷ xs) (suc j) h c none = go (ltb x LETTERS) refl (first_stands xs j (omega arith) c (λ k l m. none (suc k) (omega arith) m))
+  where
+    go : (b : Bool) → ltb x LETTERS ≡ b → first_in xs ≡ j → choose b (suc (first_in xs)) 0 ≡ suc j
+    go true t r = ap suc r
+    go false t r = absurd (none 0 (omega arith) (ltb-false x LETTERS t))
 
-  pub first_here : LETTERS ≤ get_or l i 0 → first_in (slice i n l) ≡ 0
-  first_here e = opened ∙ rw (le-ltb (get_or l i 0) LETTERS e)
-
-pub first_none : (l : List ℕ) (i n : ℕ) → i ≡ n → first_in (slice i n l) ≡ 0
-first_none l i n e = rw e (ap first_in (slice_empty n l))
+pub first_nowhere : (xs : List ℕ) → ((k : ℕ) → k < length xs → LETTERS ≤ get_or xs k 0 → ⊥) → first_in xs ≡ length xs
+first_nowhere [] none = refl
+first_nowhere (x ∷ xs) none = go (ltb x LETTERS) refl (first_nowhere xs (λ k l m. none (suc k) (omega arith) m))
+  where
+    go : (b : Bool) → ltb x LETTERS ≡ b → first_in xs ≡ length xs → choose b (suc (first_in xs)) 0 ≡ suc (length xs)
+    go true t r = ap suc r
+    go false t r = absurd (none 0 (omega arith) (ltb-false x LETTERS t))
 
 -- ---- parts one after the other
 
@@ -77,37 +83,44 @@ module _ (xs ys : List ℕ) (i : ℕ) (e : i ≡ first_in (xs ++ ys)) where
 
 -- ---- a running sequent
 
-module _ (s : Running) (l : List ℕ) (full : length l ≡ ROOM) (room : s.left.count + s.right.count ≤ ROOM) (from i : ℕ) (low : from ≤ s.left.count + s.right.count)
-    (none : first_in (take from l) ≡ from) (e : i ≡ from + first_in (slice from (s.left.count + s.right.count) l)) where
-  first_of_both : i ≡ first_in ((view s l).on_left ++ (view s l).on_right)
-  first_of_both =
-      let n = s.left.count + s.right.count in
-      let parts : take from l ++ slice from n l ≡ take n l = ap (λ (v : List ℕ). v ++ slice from n l) (sym (take-take from n l low)) ∙ take-append-drop from (take n l) in
-      let z : length (take from l) ≡ from = length-take-le from l (omega arith) in
-      let b = first_behind (take from l) (slice from n l) (none ∙ sym z) in
-      let f : first_in (take from l ++ slice from n l) ≡ i = omega (arith, b, z, e) in
-      sym f ∙ ap first_in (parts ∙ take-add s.left.count s.right.count l)
+-- its places from one on, before which stand letters
+abbrev pub behind : Running → List ℕ → ℕ → List ℕ
+behind s l from = take (s.left.count + s.right.count - from) (drop from l)
 
-  left_count : length (view s l).on_left ≡ s.left.count
-  left_count = length-take-le s.left.count l (omega arith)
+module _ (s : Running) (l : List ℕ) (full : length l ≡ ROOM) (room : s.left.count + s.right.count ≤ ROOM) (from : ℕ) (clear : Clear from l s) where
+  pub behind_count : from + length (behind s l from) ≡ s.left.count + s.right.count
+  behind_count = omega (arith, clear.inside, length-drop from l, length-take-le (s.left.count + s.right.count - from) (drop from l) (omega (arith, length-drop from l)))
 
-  right_count : length (view s l).on_right ≡ s.right.count
-  right_count = length-take-le s.right.count (drop s.left.count l) (omega (arith, length-drop s.left.count l))
+  module _ (i : ℕ) (e : i ≡ from + first_in (behind s l from)) where
+    first_of_both : i ≡ first_in ((view s l).on_left ++ (view s l).on_right)
+    first_of_both =
+        let n : from + (s.left.count + s.right.count - from) ≡ s.left.count + s.right.count = omega (arith, clear.inside) in
+        let parts : take (s.left.count + s.right.count) l ≡ take from l ++ behind s l from = ap (λ (m : ℕ). take m l) (sym n) ∙ take-add from (s.left.count + s.right.count - from) l in
+        let z : length (take from l) ≡ from = length-take-le from l (omega (arith, clear.inside)) in
+        let b = first_behind (take from l) (behind s l from) (clear.letters ∙ sym z) in
+        let f : first_in (take from l ++ behind s l from) ≡ i = omega (arith, b, z, e) in
+        sym f ∙ ap first_in (sym parts ∙ take-add s.left.count s.right.count l)
 
-  pub found_left : i < s.left.count → FoundAt (view s l) Left i
-  found_left h =
-      let k : i < length (view s l).on_left = omega (arith, left_count) in
-      (in_first (view s l).on_left (view s l).on_right i first_of_both k, k)
+    left_count : length (view s l).on_left ≡ s.left.count
+    left_count = length-take-le s.left.count l (omega arith)
 
-  module _ (h : s.left.count ≤ i) where
-    left_none : first_in (view s l).on_left ≡ length (view s l).on_left
-    left_none = past_first (view s l).on_left (view s l).on_right i first_of_both (omega (arith, left_count))
+    right_count : length (view s l).on_right ≡ s.right.count
+    right_count = length-take-le s.right.count (drop s.left.count l) (omega (arith, length-drop s.left.count l))
 
-    right_first : i ≡ s.left.count + first_in (view s l).on_right
-    right_first = rw left_count at (in_second (view s l).on_left (view s l).on_right i first_of_both (omega (arith, left_count)))
+    pub found_left : i < s.left.count → FoundAt (view s l) Left i
+    found_left h =
+        let k : i < length (view s l).on_left = omega (arith, left_count) in
+        (in_first (view s l).on_left (view s l).on_right i first_of_both k, k)
 
-    pub found_right : i < s.left.count + s.right.count → FoundAt (view s l) Right (i - s.left.count)
-    found_right k = (left_none, omega (arith, right_first), omega (arith, right_count))
+    module _ (h : s.left.count ≤ i) where
+      left_none : first_in (view s l).on_left ≡ length (view s l).on_left
+      left_none = past_first (view s l).on_left (view s l).on_right i first_of_both (omega (arith, left_count))
 
-    pub found_nowhere : i ≡ s.left.count + s.right.count → Found (view s l) None
-    found_nowhere k = (left_none, omega (arith, right_first, right_count))
+      right_first : i ≡ s.left.count + first_in (view s l).on_right
+      right_first = rw left_count at (in_second (view s l).on_left (view s l).on_right i first_of_both (omega (arith, left_count)))
+
+      pub found_right : i < s.left.count + s.right.count → FoundAt (view s l) Right (i - s.left.count)
+      found_right k = (left_none, omega (arith, right_first), omega (arith, right_count))
+
+      pub found_nowhere : i ≡ s.left.count + s.right.count → Found (view s l) None
+      found_nowhere k = (left_none, omega (arith, right_first, right_count))

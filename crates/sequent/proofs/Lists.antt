@@ -1,6 +1,6 @@
 -- Lists: parts of them, places that make way, elements.
 -- Assumes nothing.
-use Rattle.std.proofs.Common.{◌≡◌, refl, ap, Bool, true, false, List, [], ◌∷◌, ◌++◌, map, ℕ, zero, suc, ◌<◌, arith, length, get_or}
+use Rattle.std.proofs.Common.{◌≡◌, refl, ap, List, [], ◌∷◌, ◌++◌, map, ℕ, zero, suc, ◌<◌, arith, length, get_or}
 use Rattle.std.proofs.Math.Option.{some, none-ne-some}
 use mathlib.Core.List.{map-append}
 use Rattle.std.proofs.Math.ListN.{get_elem?}
@@ -11,7 +11,9 @@ use Rattle.calculus.specs.Syntax.{Seq, on_side}
 use Rattle.calculus.specs.Table.{L, R, on, splice, premise}
 use Rattle.calculus.proofs.Folds.{each_append}
 use Rattle.sequent.specs.declared.Placing.{Placing}
-use Rattle.sequent.specs.Rule.{goes_to, keep, parts_on, placed}
+use Rattle.sequent.specs.declared.Which.{Which}
+use Rattle.sequent.specs.declared.Which.TheVariants.{Neither, First, Second, Both}
+use Rattle.sequent.specs.Rule.{which_on, pick, parts_on, placed}
 
 pub on_left : {X : Type 0} (xs ys : List X) → on Left (map (λ z. L z) xs ++ map (λ z. R z) ys) ≡ xs
 on_left {X} (x ∷ xs) ys = ap (λ (l : List X). x ∷ l) (on_left xs ys)
@@ -48,11 +50,13 @@ each_splice Q (suc i) new [] h k = each_append Q new [] h tt
 each_splice Q (suc i) new (x ∷ xs) h k = (k.0, each_splice Q i new xs h k.1)
 
 pub each_parts : (Q : ℕ → Type 0) (t : Side) (p : Placing) (f g : ℕ) → Q f → Q g → Each Q (parts_on t p f g)
-each_parts Q t p f g h k = each_append Q (keep (goes_to t p.f) f) (keep (goes_to t p.g) g) (one (goes_to t p.f) f h) (one (goes_to t p.g) g k)
+each_parts Q t p f g h k = go (which_on t p)
   where
-    one : (b : Bool) (x : ℕ) → Q x → Each Q (keep b x)
-    one true x h = (h, tt)
-    one false x h = tt
+    go : (w : Which) → Each Q (pick w f g)
+    go Neither = tt
+    go First = (h, tt)
+    go Second = (k, tt)
+    go Both = (h, (k, tt))
 
 pub each_unmap : {X Y : Type 0} (f : X → Y) (Q : Y → Type 0) (xs : List X) → Each Q (map f xs) → Each (λ x. Q (f x)) xs
 each_unmap f Q [] h = tt

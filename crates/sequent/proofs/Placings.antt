@@ -5,11 +5,11 @@ use Rattle.calculus.specs.Fold.{fold, SUM}
 use Rattle.calculus.specs.Limits.{ROOM}
 use Rattle.calculus.specs.Syntax.{Sequent, size}
 use Rattle.sequent.specs.declared.Placing.{Placing}
-use Rattle.sequent.specs.declared.Goes.TheVariants.{Nowhere}
+use Rattle.sequent.specs.declared.Which.TheVariants.{Neither}
 
 -- no part placed: what a loop reads past the end of a rule
 abbrev pub nowhere : Placing
-nowhere = record { f = Nowhere; g = Nowhere }
+nowhere = record { left = Neither; right = Neither }
 
 -- after j premises the next placing and the rest are left
 pub next : (r : List Placing) (j : ℕ) → j < length r → drop j r ≡ get_or r j nowhere ∷ drop (j + 1) r

@@ -1,18 +1,18 @@
 -- The premises that a rule's placings make of names stand for the premises of document 01, and the stores made for them are the
 -- formulas of these.
 -- Assumes nothing.
-use Rattle.std.proofs.Common.{◌≡◌, refl, sym, ap, ◌∙◌, Bool, true, false, List, [], ◌∷◌, ◌++◌, map, ℕ, arith}
-use Rattle.std.proofs.Math.Path.{fun_ext}
+use Rattle.std.proofs.Common.{◌≡◌, refl, sym, ap, ◌∙◌, List, [], ◌∷◌, ◌++◌, map, ℕ, arith}
 use mathlib.Core.List.{map-append}
 use Rattle.std.proofs.Math.ListN.{length-map}
 use Rattle.calculus.specs.declared.Side.{Side}
 use Rattle.calculus.specs.declared.Side.TheVariants.{Left, Right}
-use Rattle.calculus.specs.Fold.{fold, SUM}
 use Rattle.calculus.specs.Syntax.{Formula, Compound, Seq, size}
 use Rattle.calculus.specs.Table.{Part, F, G, Put, L, R, table, fill, on, splice, premise, premises}
-use Rattle.calculus.proofs.Folds.{ones, fold_map}
+use Rattle.calculus.proofs.Folds.{ones}
 use Rattle.sequent.specs.declared.Placing.{Placing}
-use Rattle.sequent.specs.Rule.{goes_to, keep, parts_on, premise_of, premises_of, sided, placed}
+use Rattle.sequent.specs.declared.Which.{Which}
+use Rattle.sequent.specs.declared.Which.TheVariants.{Neither, First, Second, Both}
+use Rattle.sequent.specs.Rule.{pick, parts_on, premise_of, premises_of, sided, placed}
 use Rattle.sequent.proofs.Lists.{on_left, on_right, map_splice}
 use Rattle.sequent.specs.View.{named}
 
@@ -37,11 +37,11 @@ on_fill Right x y (L G ∷ ps) = on_fill Right x y ps
 on_fill Right x y (R F ∷ ps) = rw (on_fill Right x y ps)
 on_fill Right x y (R G ∷ ps) = rw (on_fill Right x y ps)
 
-part_keep : {X : Type 0} (x y : X) (a b : Bool) → map (part x y) (keep a F ++ keep b G) ≡ keep a x ++ keep b y
-part_keep x y true true = refl
-part_keep x y true false = refl
-part_keep x y false true = refl
-part_keep x y false false = refl
+part_pick : {X : Type 0} (x y : X) (w : Which) → map (part x y) (pick w F G) ≡ pick w x y
+part_pick x y Neither = refl
+part_pick x y First = refl
+part_pick x y Second = refl
+part_pick x y Both = refl
 
 module _ {X : Type 0} (i : ℕ) (x y : X) (S : Seq X) where
   row_fill : (t : Side) (ps : List (Put Part)) → premise t i S (map (fill x y) ps) ≡ row t i x y S (sided ps)
@@ -50,9 +50,9 @@ module _ {X : Type 0} (i : ℕ) (x y : X) (S : Seq X) where
 
   row_placed : (t : Side) (p : Placing) → premise t i S (placed p x y) ≡ row t i x y S (premise_of p)
   row_placed Left p =
-      rw (on_left (parts_on Left p x y) (parts_on Right p x y), on_right (parts_on Left p x y) (parts_on Right p x y), part_keep x y (goes_to Left p.f) (goes_to Left p.g), part_keep x y (goes_to Right p.f) (goes_to Right p.g))
+      rw (on_left (parts_on Left p x y) (parts_on Right p x y), on_right (parts_on Left p x y) (parts_on Right p x y), part_pick x y p.left, part_pick x y p.right)
   row_placed Right p =
-      rw (on_left (parts_on Left p x y) (parts_on Right p x y), on_right (parts_on Left p x y) (parts_on Right p x y), part_keep x y (goes_to Left p.f) (goes_to Left p.g), part_keep x y (goes_to Right p.f) (goes_to Right p.g))
+      rw (on_left (parts_on Left p x y) (parts_on Right p x y), on_right (parts_on Left p x y) (parts_on Right p x y), part_pick x y p.left, part_pick x y p.right)
 
   module _ {Y : Type 0} (φ : X → Y) where
     part_map : (ps : List Part) → map φ (map (part x y) ps) ≡ map (part (φ x) (φ y)) ps
@@ -83,9 +83,3 @@ module _ (φ : ℕ → Formula) (S : Seq ℕ) (t : Side) (i : ℕ) (f g : ℕ) (
     pub rule_premises : map (λ p. named φ (premise t i S (placed p f g))) r ≡ premises t i x (named φ S)
     rule_premises =
         rows_named r ∙ ap (map (row t i x.f x.g (named φ S))) rows ∙ sym (rows_filled (table x.connective t))
-
-    -- the stores of all premises of a rule
-    pub rule_stores : fold SUM (λ p. size (premise t i S (placed p f g))) r ≡ fold SUM size (premises t i x (named φ S))
-    rule_stores =
-        ap (λ (h : Placing → ℕ). fold SUM h r) (fun_ext (λ p. sym (size_named φ (premise t i S (placed p f g)))))
-        ∙ sym (fold_map SUM size (λ p. named φ (premise t i S (placed p f g))) r) ∙ ap (fold SUM size) rule_premises

@@ -41,10 +41,10 @@ Found N None = (first_in N.on_left ≡ length N.on_left) × (first_in N.on_right
 
 -- ---- equal compounds
 
--- the first place of a name, or that it stands nowhere
-abbrev pub Stands : List ℕ → ℕ → Option ℕ → Type 0
-Stands xs d (Some j) = (j < length xs) × (get_or xs j 0 ≡ d) × ((k : ℕ) → k < j → get_or xs k 0 ≡ d → ⊥)
-Stands xs d None = (k : ℕ) → k < length xs → get_or xs k 0 ≡ d → ⊥
+-- the first place of a name of the kind, or that there is none
+abbrev pub Stands : (ℕ → Type 0) → List ℕ → Option ℕ → Type 0
+Stands Q xs (Some j) = (j < length xs) × Q (get_or xs j 0) × ((k : ℕ) → k < j → Q (get_or xs k 0) → ⊥)
+Stands Q xs None = (k : ℕ) → k < length xs → Q (get_or xs k 0) → ⊥
 
 -- a compound stands at this left place and at this right place
 pub record EqualAt (N : Seq ℕ) (i j : ℕ) : Type 0 where

@@ -1,47 +1,41 @@
 -- What a row of the constant table says.
-use Rattle.std.specs.Prelude.{Bool, true, false, List, [], ◌∷◌, ◌++◌, map}
+use Rattle.std.specs.Prelude.{List, [], ◌∷◌, ◌++◌, map}
 use Rattle.calculus.specs.declared.Side.{Side}
 use Rattle.calculus.specs.declared.Side.TheVariants.{Left, Right}
 use Rattle.calculus.specs.Syntax.{Connective, Seq}
 use Rattle.calculus.specs.Table.{Part, F, G, Put, L, R, table, on}
 use Rattle.sequent.specs.declared.Placing.{Placing}
-use Rattle.sequent.specs.declared.Goes.{Goes}
-use Rattle.sequent.specs.declared.Goes.TheVariants.{Nowhere, Left as ToLeft, Right as ToRight}
+use Rattle.sequent.specs.declared.Which.{Which}
+use Rattle.sequent.specs.declared.Which.TheVariants.{Neither, First, Second, Both}
 
--- the side that a part goes to in a premise
-abbrev pub goes : Part → List (Put Part) → Goes
-goes x [] = Nowhere
-goes F (L F ∷ ps) = ToLeft
-goes F (R F ∷ ps) = ToRight
-goes F (L G ∷ ps) = goes F ps
-goes F (R G ∷ ps) = goes F ps
-goes G (L F ∷ ps) = goes G ps
-goes G (R F ∷ ps) = goes G ps
-goes G (L G ∷ ps) = ToLeft
-goes G (R G ∷ ps) = ToRight
+-- which parts a list holds: in the table's no part stands twice, and F stands before G
+abbrev pub which : List Part → Which
+which [] = Neither
+which (F ∷ []) = First
+which (G ∷ []) = Second
+which (x ∷ y ∷ ps) = Both
 
 abbrev pub placing : List (Put Part) → Placing
-placing ps = record { f = goes F ps; g = goes G ps }
+placing ps = record { left = which (on Left ps); right = which (on Right ps) }
 
--- the rule of a connective on a side: where each premise of its row of document 01's table puts the parts
+-- the rule of a connective on a side: which parts each premise of its row of the table puts on each side
 abbrev pub rule_of : Connective → Side → List Placing
 rule_of k s = map placing (table k s)
 
--- whether a part goes to a side
-abbrev pub goes_to : Side → Goes → Bool
-goes_to s Nowhere = false
-goes_to Left ToLeft = true
-goes_to Left ToRight = false
-goes_to Right ToLeft = false
-goes_to Right ToRight = true
+-- the parts that a premise puts on a side
+abbrev pub which_on : Side → Placing → Which
+which_on Left p = p.left
+which_on Right p = p.right
 
-abbrev pub keep : {X : Type 0} → Bool → X → List X
-keep true x = x ∷ []
-keep false x = []
+-- those of x and y, x before y
+abbrev pub pick : {X : Type 0} → Which → X → X → List X
+pick Neither x y = []
+pick First x y = x ∷ []
+pick Second x y = y ∷ []
+pick Both x y = x ∷ y ∷ []
 
--- the parts that a premise puts on a side, F before G
 abbrev pub parts_on : {X : Type 0} → Side → Placing → X → X → List X
-parts_on s p x y = keep (goes_to s p.f) x ++ keep (goes_to s p.g) y
+parts_on s p x y = pick (which_on s p) x y
 
 abbrev pub premise_of : Placing → Seq Part
 premise_of p = record { on_left = parts_on Left p F G; on_right = parts_on Right p F G }

@@ -10,7 +10,7 @@ ghost use Rattle.calculus.specs.Bytes.{CONNECTIVE, code};
 ghost use Rattle.calculus.specs.Table.{premise};
 ghost use Rattle.question.specs.Connectives.{connective_of, command_of};
 ghost use Rattle.sequent.specs.Names.{first_of, second_of};
-ghost use Rattle.sequent.specs.Rule.{rule_of, goes_to, keep, parts_on, placed};
+ghost use Rattle.sequent.specs.Rule.{rule_of, which_on, parts_on, placed};
 ghost use Rattle.sequent.specs.View.{view, count_of, slot_of, end_of, start_of};
 ghost use Rattle.sequent.specs.View.{grown, joined, Covered, Good, name_at};
 ghost use Rattle.sequent.specs.Passes.{Fits, Stored, Builds};
@@ -75,19 +75,20 @@ pub struct Names<'a> {
     pub items: &'a [u8; ROOM],
 }
 
-// The side that a part goes to in a premise, if any. An `Option<Side>` is two bytes, and each part's are read at both sides.
+// Which of a formula's two parts.
 #[derive(Clone, Copy)]
-pub enum Goes {
-    Nowhere,
-    Left,
-    Right,
+pub enum Which {
+    Neither,
+    First,
+    Second,
+    Both,
 }
 
-// Where the two parts of a formula go in a premise.
+// A premise of the table: which parts go left, and which right.
 #[derive(Clone, Copy)]
 pub struct Placing {
-    pub f: Goes,
-    pub g: Goes,
+    pub left: Which,
+    pub right: Which,
 }
 
 // The names of a formula's two parts, and where they go in a premise.
@@ -136,30 +137,43 @@ pub struct Counted<T> {
     pub stores: usize,
 }
 
-const L: Goes = Goes::Left;
+const N: Which = Which::Neither;
 
-const R: Goes = Goes::Right;
+const F: Which = Which::First;
 
-const N: Goes = Goes::Nowhere;
+const G: Which = Which::Second;
 
-// The ten reductions, NOT to EQUIV, each on the left and on the right: where F and G go in each premise.
+const FG: Which = Which::Both;
+
+// The ten reductions, NOT to EQUIV, each on the left and on the right: the parts that go left and right in each premise.
 static RULES: [[&[Placing]; 2]; 5] = [
-    [&[Placing { f: R, g: N }], &[Placing { f: L, g: N }]],
+    // NOT
     [
-        &[Placing { f: L, g: L }],
-        &[Placing { f: R, g: N }, Placing { f: N, g: R }],
+        &[Placing { left: N, right: F }],
+        &[Placing { left: F, right: N }],
     ],
+    // AND
     [
-        &[Placing { f: L, g: N }, Placing { f: N, g: L }],
-        &[Placing { f: R, g: R }],
+        &[Placing { left: FG, right: N }],
+        &[Placing { left: N, right: F }, Placing { left: N, right: G }],
     ],
+    // OR
     [
-        &[Placing { f: N, g: L }, Placing { f: R, g: N }],
-        &[Placing { f: L, g: R }],
+        &[Placing { left: F, right: N }, Placing { left: G, right: N }],
+        &[Placing { left: N, right: FG }],
     ],
+    // IMPLIES
     [
-        &[Placing { f: L, g: L }, Placing { f: R, g: R }],
-        &[Placing { f: L, g: R }, Placing { f: R, g: L }],
+        &[Placing { left: G, right: N }, Placing { left: N, right: F }],
+        &[Placing { left: F, right: G }],
+    ],
+    // EQUIV
+    [
+        &[
+            Placing { left: FG, right: N },
+            Placing { left: N, right: FG },
+        ],
+        &[Placing { left: F, right: G }, Placing { left: G, right: F }],
     ],
 ];
 
@@ -182,12 +196,19 @@ fn rule_of(k: Connective, side: Side) -> &'static [Placing]
 }
 
 impl Reduction {
-    // The compound's connective, by its command: a node is one word, as naming searches for words.
+    // The command of the compound's connective: a node is one word, as naming searches for words.
+    pub fn command(self) -> u8
+        ensures { result ≡ self.node % 256 }
+    {
+        self.node.to_le_bytes()[0]
+    }
+
+    // The compound's connective.
     pub fn connective(self) -> Connective
         requires { (k : Defined) × (code (CONNECTIVE k) ≡ self.node % 256) }
         ensures { command_of result ≡ self.node % 256 }
     {
-        Connective::try_from(self.node.to_le_bytes()[0]).unwrap()
+        Connective::try_from(self.command()).unwrap()
     }
 
     // The row of the table that it goes by: where the parts go in each premise.
@@ -242,15 +263,15 @@ impl Pass {
     }
 }
 
-impl Goes {
-    // Whether it goes to a side.
-    fn to(self, side: Side) -> bool
-        ensures { result ≡ goes_to side self }
+impl Placing {
+    // The parts that go to a side.
+    fn on(self, side: Side) -> Which
+        ensures { result ≡ which_on side self }
     {
-        matches!(
-            (self, side),
-            (Goes::Left, Side::Left) | (Goes::Right, Side::Right)
-        )
+        match side {
+            Side::Left => self.left,
+            Side::Right => self.right,
+        }
     }
 }
 
@@ -266,19 +287,15 @@ impl Growing {
         }
     }
 
-    // A part, if it goes to the side.
-    fn part(self, new: &mut [u8; ROOM], to: Goes, side: Side, name: u8) -> Growing
-        requires { Fits self.pass (length (keep (goes_to side to) name)) new.old }
-        ensures { Stored self.pass result.pass self.pass.from (keep (goes_to side to) name) new.old new.new
-            × (result.half ≡ joined (keep (goes_to side to) name) self.half) }
+    // A part.
+    fn part(self, new: &mut [u8; ROOM], name: u8) -> Growing
+        requires { Fits self.pass 1 new.old }
+        ensures { Stored self.pass result.pass self.pass.from (name ∷ []) new.old new.new
+            × (result.half ≡ joined (name ∷ []) self.half) }
     {
-        if to.to(side) {
-            Growing {
-                pass: self.pass.put(new, name),
-                half: self.half.with(name),
-            }
-        } else {
-            self
+        Growing {
+            pass: self.pass.put(new, name),
+            half: self.half.with(name),
         }
     }
 
@@ -288,7 +305,12 @@ impl Growing {
         ensures { Stored self.pass result.pass self.pass.from (parts_on side x.p x.f x.g) new.old new.new
             × (result.half ≡ joined (parts_on side x.p x.f x.g) self.half) }
     {
-        self.part(new, x.p.f, side, x.f).part(new, x.p.g, side, x.g)
+        match x.p.on(side) {
+            Which::Neither => self,
+            Which::First => self.part(new, x.f),
+            Which::Second => self.part(new, x.g),
+            Which::Both => self.part(new, x.f).part(new, x.g),
+        }
     }
 }
 
@@ -296,9 +318,16 @@ impl Growing {
 
 // The first place of a name.
 fn place_of(names: &[u8], name: u8) -> Option<usize>
-    ensures { Stands names.now name result }
+    ensures { Stands (λ x. x ≡ name) names.now result }
 {
     names.iter().position(|x| *x == name)
+}
+
+// The first place of a compound.
+fn compound_in(names: &[u8]) -> Option<usize>
+    ensures { Stands (λ x. Limits.LETTERS ≤ x) names.now result }
+{
+    names.iter().position(|x| LETTERS <= *x)
 }
 
 impl Running {
@@ -344,6 +373,7 @@ impl Running {
     }
 
     // What is left up to a place, and the parts in place of the formula there.
+    #[inline(always)]
     fn replace(
         self,
         a: Growing,
@@ -377,6 +407,7 @@ impl Running {
     }
 
     // What is left up to the end of a side, and the parts behind it.
+    #[inline(always)]
     fn append(
         self,
         a: Growing,
@@ -494,30 +525,25 @@ impl Running {
         self.build(old, new, r.place, Parts { p, f, g })
     }
 
-    // The first formula with a connective, the left side before the right, where there is none before a place of the list. It
-    // counts the places: over the slice, by `position`, `decide` takes 1.07 to 1.14 times as long, 1.17 of what it took.
+    // The first formula with a connective, the left side before the right, where there is none before a place of the list.
     pub fn first_compound(self, items: &[u8; ROOM], from: usize) -> Option<Place>
         requires { (self.left.count + self.right.count ≤ Limits.ROOM) × Clear from items.now self }
         ensures { Found (view self items.now) result }
     {
         let lefts = self.left.count;
         let n = lefts + self.right.count;
-        for i in from..n {
-            if LETTERS <= items[i] {
-                return Some(if i < lefts {
-                    Place {
-                        side: Side::Left,
-                        at: i,
-                    }
-                } else {
-                    Place {
-                        side: Side::Right,
-                        at: i - lefts,
-                    }
-                });
+        let i = from + compound_in(&items[from..n])?;
+        Some(if i < lefts {
+            Place {
+                side: Side::Left,
+                at: i,
             }
-        }
-        None
+        } else {
+            Place {
+                side: Side::Right,
+                at: i - lefts,
+            }
+        })
     }
 
     // How the compound at a place reduces.

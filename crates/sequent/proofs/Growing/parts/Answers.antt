@@ -1,13 +1,21 @@
-use Rattle.std.proofs.Common.{ap, ◌∙◌}
-use Rattle.sequent.specs.Rule.{goes_to, keep}
+use Rattle.std.proofs.Common.{◌≡◌, sym, ap, ◌∙◌, [], ◌∷◌}
+use Rattle.sequent.specs.Rule.{which_on}
+use Rattle.sequent.specs.declared.Which.TheVariants.{Neither, Both}
 use Rattle.sequent.specs.View.{joined}
-use Rattle.sequent.proofs.Passes.{chain_kept}
-use Rattle.sequent.proofs.Letters.{joined_both}
+use Rattle.sequent.proofs.Passes.{chain_kept, kept}
+use Rattle.sequent.proofs.Letters.{joined_none, joined_both}
 use Rattle.sequent.proofs.Growing.parts.Goals as goal
 
-pub returns : goal.returns
-returns c =
-    let a = c.args in (
-      chain_kept c.part.ensures.0 c.part-2.ensures.0,
-      c.part-2.ensures.1 ∙ ap (joined (keep (goes_to a.side a.x.p.g) a.x.g)) c.part.ensures.1 ∙ joined_both (keep (goes_to a.side a.x.p.f) a.x.f) (keep (goes_to a.side a.x.p.g) a.x.g) a.self.half,
-    )
+pub returns-in-Neither : goal.returns-in-Neither
+returns-in-Neither c =
+    let a = c.args in
+    let e : which_on a.side a.x.p ≡ Neither = sym c.on.ensures ∙ c.in-Neither.is in
+    rw e (kept a.self.pass a.new.now, joined_none a.self.half)
+
+pub returns-in-Both : goal.returns-in-Both
+returns-in-Both c =
+    let a = c.args in
+    let first = c.part-in-Both.ensures in
+    let second = c.part-in-Both-2.ensures in
+    let e : which_on a.side a.x.p ≡ Both = sym c.on.ensures ∙ c.in-Both.is in
+    rw e (chain_kept first.0 second.0, second.1 ∙ ap (joined (a.x.g ∷ [])) first.1 ∙ joined_both (a.x.f ∷ []) (a.x.g ∷ []) a.self.half)
