@@ -15,7 +15,7 @@ use Rattle.calculus.specs.Syntax.{Sequent, size}
 use Rattle.calculus.specs.Derivation.{Move as Said, fault, waiting, shut, obey, order, faulty, proceed, check}
 use Rattle.calculus.proofs.Folds.{fold_append}
 use Rattle.calculus.proofs.Derivations.{Obeyed, obeyed}
-use Rattle.sequent.specs.declared.Placing.{Placing}
+use Rattle.sequent.specs.Rule.{Placing}
 use Rattle.sequent.specs.declared.Counted.{Counted}
 use Rattle.sequent.specs.declared.Running.{Running}
 use Rattle.sequent.specs.declared.Reduction.{Reduction}

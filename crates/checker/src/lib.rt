@@ -116,7 +116,8 @@ fn closes(s: Running, letter: u8) -> bool
     in_mask(s.left.mask, letter) && in_mask(s.right.mask, letter)
 }
 
-// The reduction of the formula at a place of a side, if that has the connective.
+// The reduction of the formula at a place of a side, if that has the connective. Commands are compared: a connective would be
+// decoded first.
 fn formula_named(
     t: Names<'_>,
     s: Running,
@@ -260,7 +261,7 @@ fn walk(t: Names<'_>, d: &[u8], s: Running, at: usize) -> Result<usize, Fault>
     }
 }
 
-// A premise of the reduction, made, and its derivation (`Running::premise` says why it goes on here).
+// A premise of the reduction, made, and its derivation: the one call of the recursion, as in the run.
 #[cycle(walk_walk_premise_walk_premises)]
 #[inline(never)]
 fn walk_premise(

@@ -17,7 +17,7 @@ use Rattle.calculus.specs.Tree.{lettered, paired, Event, close, reduce, closings
 use Rattle.calculus.proofs.Bounds.{closings_bound, W_bound}
 use Rattle.calculus.proofs.Budgets.{spend_closings, outcome_step}
 use Rattle.calculus.proofs.Room.{reachable_few}
-use Rattle.sequent.specs.declared.Placing.{Placing}
+use Rattle.sequent.specs.Rule.{Placing}
 use Rattle.sequent.proofs.Placings.{nowhere, next, next_ends}
 use Rattle.sequent.proofs.Goods.{premises_made, few, makes_next, made_small}
 use Rattle.sequent.specs.declared.Reduction.{Reduction}

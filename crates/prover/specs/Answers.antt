@@ -1,6 +1,5 @@
 -- The answer of the call that decides: document 01's number and values, and what demands 2 and 3 say of it.
 use Rattle.std.specs.Prelude.{◌≡◌, ◌≢◌, ◌↔◌, List, [], ◌∷◌, ℕ, ◌+◌, ◌*◌, ◌≤◌, ◌<◌, Result, Ok, Err}
-use Rattle.calculus.specs.declared.Kind.{Kind}
 use Rattle.calculus.specs.declared.Kind.TheVariants.{Theorem, Refuted, Spent}
 use Rattle.calculus.specs.declared.Verdict.{Verdict}
 use Rattle.calculus.specs.Syntax.{Sequent, c}

@@ -106,7 +106,8 @@ fn run(t: Names<'_>, s: Running, from: usize, left: u64) -> Outcome
     }
 }
 
-// A premise of the reduction, made and run (`Running::premise` says why it goes on here).
+// A premise of the reduction, made and run (`Running::premise` says why it goes on here). It is the one call of the recursion,
+// and all else a part of it: so a premise is made in the frame that goes on from it.
 #[cycle(reduce_run_run_premise)]
 #[inline(never)]
 fn run_premise(t: Names<'_>, s: Running, r: Reduction, p: Placing, left: u64) -> Counted<Outcome>

@@ -1,25 +1,25 @@
 -- The first compound among names: where it stands, and part by part.
 -- Assumes nothing.
-use Rattle.std.proofs.Common.{◌≡◌, refl, sym, ap, ◌∙◌, Bool, true, false, List, [], ◌∷◌, ◌++◌, None, ℕ, zero, suc, ◌+◌, ◌-◌, ◌≤◌, ◌<◌, arith, ltb, length, take, drop, get_or, length-drop, take-add, length-take-le, le-ltb, ltb-true, ltb-false}
+use Rattle.std.proofs.Common.{◌≡◌, refl, sym, ap, ◌∙◌, Bool, true, false, List, [], ◌∷◌, ◌++◌, Some, None, ℕ, zero, suc, ◌+◌, ◌-◌, ◌≤◌, ◌<◌, arith, ltb, length, take, drop, get_or, length-drop, take-add, length-take-le, le-ltb, ltb-true, ltb-false}
 use Rattle.calculus.specs.declared.Side.TheVariants.{Left, Right}
 use Rattle.calculus.specs.Fold.{choose}
 use Rattle.calculus.specs.Limits.{ROOM, LETTERS}
 use Rattle.sequent.specs.declared.Running.{Running}
 use Rattle.sequent.specs.View.{view}
-use Rattle.sequent.specs.Compounds.{first_in, Clear, FoundAt, Found}
+use Rattle.sequent.specs.Compounds.{Stands, first_in, Clear, FoundAt, Found}
 
 -- ---- where the first stands
 
-pub first_stands : (xs : List ℕ) (j : ℕ) → j < length xs → LETTERS ≤ get_or xs j 0 → ((k : ℕ) → k < j → LETTERS ≤ get_or xs k 0 → ⊥) → first_in xs ≡ j
-first_stands [] j h c none = absurd (omega arith)
-first_stands (x ∷ xs) zero h c none = rw (le-ltb x LETTERS c) refl
-first_stands (x ∷ xs) (suc j) h c none = go (ltb x LETTERS) refl (first_stands xs j (omega arith) c (λ k l m. none (suc k) (omega arith) m))
+pub first_stands : (xs : List ℕ) (j : ℕ) → Stands (λ x. LETTERS ≤ x) xs (Some j) → first_in xs ≡ j
+first_stands [] j h = absurd (omega (arith, h.0))
+first_stands (x ∷ xs) zero h = rw (le-ltb x LETTERS h.1) refl
+first_stands (x ∷ xs) (suc j) h = go (ltb x LETTERS) refl (first_stands xs j (omega (arith, h.0), h.1, λ k l m. h.2 (suc k) (omega arith) m))
   where
     go : (b : Bool) → ltb x LETTERS ≡ b → first_in xs ≡ j → choose b (suc (first_in xs)) 0 ≡ suc j
     go true t r = ap suc r
-    go false t r = absurd (none 0 (omega arith) (ltb-false x LETTERS t))
+    go false t r = absurd (h.2 0 (omega arith) (ltb-false x LETTERS t))
 
-pub first_nowhere : (xs : List ℕ) → ((k : ℕ) → k < length xs → LETTERS ≤ get_or xs k 0 → ⊥) → first_in xs ≡ length xs
+pub first_nowhere : (xs : List ℕ) → Stands (λ x. LETTERS ≤ x) xs None → first_in xs ≡ length xs
 first_nowhere [] none = refl
 first_nowhere (x ∷ xs) none = go (ltb x LETTERS) refl (first_nowhere xs (λ k l m. none (suc k) (omega arith) m))
   where
@@ -83,7 +83,7 @@ module _ (xs ys : List ℕ) (i : ℕ) (e : i ≡ first_in (xs ++ ys)) where
 
 -- ---- a running sequent
 
--- its places from one on, before which stand letters
+-- its names from a place of the list on
 abbrev pub behind : Running → List ℕ → ℕ → List ℕ
 behind s l from = take (s.left.count + s.right.count - from) (drop from l)
 

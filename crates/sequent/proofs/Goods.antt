@@ -18,13 +18,12 @@ use Rattle.calculus.proofs.Folds.{each, each_and, each_at}
 use Rattle.calculus.proofs.Sequents.{Smaller, smaller}
 use Rattle.calculus.proofs.Room.{reachable_room, reachable_premises}
 use Rattle.calculus.proofs.Trees.{alike_only}
-use Rattle.sequent.specs.declared.Placing.{Placing}
 use Rattle.sequent.specs.declared.Running.{Running}
 use Rattle.sequent.specs.declared.Counted.{Counted}
 use Rattle.sequent.specs.declared.Reduction.{Reduction}
 use Rattle.calculus.specs.declared.Pair.{Pair}
 use Rattle.sequent.specs.Names.{first_of, second_of, formula_in, Known}
-use Rattle.sequent.specs.Rule.{rule_of, parts_on, placed, premises_of, sided}
+use Rattle.sequent.specs.Rule.{Placing, rule_of, parts_on, placed, premises_of, sided}
 use Rattle.sequent.specs.View.{view, count_of, mask_of, slot_of, start_of, name_at, named, sequent_of, bit_of, letters_of, Good}
 use Rattle.sequent.specs.Passes.{Builds}
 use Rattle.sequent.specs.Compounds.{first_in, Clear, FoundAt, Found, EqualAt, Paired, twins_of, compound_of, IsCompound, compound_at, rule_for, reduction_at, premises_at, premise_by, Reducible, Makes}

@@ -11,8 +11,7 @@ use Rattle.calculus.specs.Limits.{LETTERS}
 use Rattle.calculus.specs.Syntax.{Seq, on_side}
 use Rattle.calculus.specs.Table.{splice, premise}
 use Rattle.calculus.proofs.Folds.{fold_append}
-use Rattle.sequent.specs.declared.Placing.{Placing}
-use Rattle.sequent.specs.Rule.{parts_on, placed}
+use Rattle.sequent.specs.Rule.{Placing, parts_on, placed}
 use Rattle.sequent.proofs.Masks.{or_assoc, OR, fold_splice}
 use Rattle.sequent.proofs.Lists.{on_left, on_right}
 use Rattle.sequent.specs.declared.Half.{Half}

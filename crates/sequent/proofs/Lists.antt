@@ -7,13 +7,12 @@ use Rattle.std.proofs.Math.ListN.{get_elem?}
 use Rattle.calculus.specs.declared.Side.{Side}
 use Rattle.calculus.specs.declared.Side.TheVariants.{Left, Right}
 use Rattle.calculus.specs.Fold.{Each}
-use Rattle.calculus.specs.Syntax.{Seq, on_side}
+use Rattle.calculus.specs.Syntax.{side_of, Seq, on_side}
 use Rattle.calculus.specs.Table.{L, R, on, splice, premise}
 use Rattle.calculus.proofs.Folds.{each_append}
-use Rattle.sequent.specs.declared.Placing.{Placing}
 use Rattle.sequent.specs.declared.Which.{Which}
 use Rattle.sequent.specs.declared.Which.TheVariants.{Neither, First, Second, Both}
-use Rattle.sequent.specs.Rule.{which_on, pick, parts_on, placed}
+use Rattle.sequent.specs.Rule.{Placing, pick, parts_on, placed}
 
 pub on_left : {X : Type 0} (xs ys : List X) → on Left (map (λ z. L z) xs ++ map (λ z. R z) ys) ≡ xs
 on_left {X} (x ∷ xs) ys = ap (λ (l : List X). x ∷ l) (on_left xs ys)
@@ -50,7 +49,7 @@ each_splice Q (suc i) new [] h k = each_append Q new [] h tt
 each_splice Q (suc i) new (x ∷ xs) h k = (k.0, each_splice Q i new xs h k.1)
 
 pub each_parts : (Q : ℕ → Type 0) (t : Side) (p : Placing) (f g : ℕ) → Q f → Q g → Each Q (parts_on t p f g)
-each_parts Q t p f g h k = go (which_on t p)
+each_parts Q t p f g h k = go (side_of p t)
   where
     go : (w : Which) → Each Q (pick w f g)
     go Neither = tt

@@ -40,7 +40,7 @@ skipped h s =
       from = omega (arith, s.0, h.from);
     }
 
--- a part of the old list, all at once
+-- a run of old names
 pub copied : (a : Pass) (e : ℕ) (xs ys l : List ℕ) (n : ℕ) → ys ≡ xs → n ≡ length xs → a.to + length xs ≤ length l
     → Stored a (record { from = e; to = a.to + length xs; stores = a.stores + length xs }) e xs l (put_mid a.to n l ys)
 copied a e xs ys l n s k h =

@@ -4,7 +4,7 @@ use Rattle.std.proofs.Common.{◌≡◌, sym, ap, ◌∙◌, List, [], ◌∷◌
 use Rattle.calculus.specs.Fold.{fold, SUM}
 use Rattle.calculus.specs.Limits.{ROOM}
 use Rattle.calculus.specs.Syntax.{Sequent, size}
-use Rattle.sequent.specs.declared.Placing.{Placing}
+use Rattle.sequent.specs.Rule.{Placing}
 use Rattle.sequent.specs.declared.Which.TheVariants.{Neither}
 
 -- no part placed: what a loop reads past the end of a rule

@@ -7,8 +7,7 @@ use Rattle.calculus.specs.declared.Side.TheVariants.{Left, Right}
 use Rattle.calculus.specs.Limits.{ROOM}
 use Rattle.calculus.specs.Syntax.{size}
 use Rattle.calculus.specs.Table.{on, splice, premise}
-use Rattle.sequent.specs.declared.Placing.{Placing}
-use Rattle.sequent.specs.Rule.{parts_on, placed}
+use Rattle.sequent.specs.Rule.{Placing, parts_on, placed}
 use Rattle.calculus.proofs.Folds.{ones}
 use Rattle.sequent.proofs.Lists.{on_left, on_right}
 use Rattle.sequent.specs.declared.Pass.{Pass}

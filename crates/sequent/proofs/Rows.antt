@@ -5,8 +5,7 @@ use Rattle.calculus.specs.declared.Side.{Side}
 use Rattle.calculus.specs.declared.Side.TheVariants.{Left, Right}
 use Rattle.calculus.specs.Syntax.{AND, OR, IMPLIES, EQUIV, Connective, NOT, two}
 use Rattle.calculus.specs.Table.{table}
-use Rattle.sequent.specs.declared.Placing.{Placing}
-use Rattle.sequent.specs.Rule.{rule_of, premises_of, sided}
+use Rattle.sequent.specs.Rule.{Placing, rule_of, premises_of, sided}
 
 -- The rule of a connective on a side says what its row says.
 rule_row : (k : Connective) (s : Side) → premises_of (rule_of k s) ≡ map sided (table k s)

@@ -1,5 +1,4 @@
--- The premises that a rule's placings make of names stand for the premises of document 01, and the stores made for them are the
--- formulas of these.
+-- The premises that a rule makes of names stand for the premises of the rules, and have as many formulas.
 -- Assumes nothing.
 use Rattle.std.proofs.Common.{◌≡◌, refl, sym, ap, ◌∙◌, List, [], ◌∷◌, ◌++◌, map, ℕ, arith}
 use mathlib.Core.List.{map-append}
@@ -9,10 +8,9 @@ use Rattle.calculus.specs.declared.Side.TheVariants.{Left, Right}
 use Rattle.calculus.specs.Syntax.{Formula, Compound, Seq, size}
 use Rattle.calculus.specs.Table.{Part, F, G, Put, L, R, table, fill, on, splice, premise, premises}
 use Rattle.calculus.proofs.Folds.{ones}
-use Rattle.sequent.specs.declared.Placing.{Placing}
 use Rattle.sequent.specs.declared.Which.{Which}
 use Rattle.sequent.specs.declared.Which.TheVariants.{Neither, First, Second, Both}
-use Rattle.sequent.specs.Rule.{pick, parts_on, premise_of, premises_of, sided, placed}
+use Rattle.sequent.specs.Rule.{Placing, pick, parts_on, premise_of, premises_of, sided, placed}
 use Rattle.sequent.proofs.Lists.{on_left, on_right, map_splice}
 use Rattle.sequent.specs.View.{named}
 

@@ -11,9 +11,8 @@ use Rattle.calculus.specs.Truth.{bit}
 use Rattle.calculus.proofs.Folds.{or_left, or_right, each}
 use Rattle.calculus.proofs.Bits.{bit_and_lem, bit_or_lem}
 use Rattle.calculus.proofs.Trees.{bit_light, bit_zero, light_or}
-use Rattle.sequent.specs.declared.Placing.{Placing}
 use Rattle.sequent.specs.declared.Running.{Running}
-use Rattle.sequent.specs.Rule.{parts_on, placed}
+use Rattle.sequent.specs.Rule.{Placing, parts_on, placed}
 use Rattle.sequent.specs.View.{view, set_of, compound_bit, compounds_of, Member, Covered}
 use Rattle.sequent.proofs.Lists.{each_premise}
 

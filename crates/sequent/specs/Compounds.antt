@@ -8,16 +8,20 @@ use Rattle.calculus.specs.Syntax.{NOT, two, Formula, letter, neg, join, Compound
 use Rattle.calculus.specs.Table.{premise, premises}
 use Rattle.calculus.specs.Reached.{Reachable}
 use Rattle.calculus.specs.Tree.{Twins, unlike, alike}
-use Rattle.sequent.specs.declared.Placing.{Placing}
 use Rattle.sequent.specs.declared.Running.{Running}
 use Rattle.sequent.specs.declared.Reduction.{Reduction}
 use Rattle.calculus.specs.declared.Pair.{Pair}
 use Rattle.sequent.specs.declared.Place.{Place}
 use Rattle.sequent.specs.Names.{formula_in, node_of, connective_of, first_of, second_of}
-use Rattle.sequent.specs.Rule.{rule_of, placed}
+use Rattle.sequent.specs.Rule.{Placing, rule_of, placed}
 use Rattle.sequent.specs.View.{view, count_of, name_at, named, sequent_of, Good}
 
 -- ---- the first
+
+-- the first place of a name of a kind, or that there is none
+abbrev pub Stands : (ℕ → Type 0) → List ℕ → Option ℕ → Type 0
+Stands Q xs (Some j) = (j < length xs) × Q (get_or xs j 0) × ((k : ℕ) → k < j → Q (get_or xs k 0) → ⊥)
+Stands Q xs None = (k : ℕ) → k < length xs → Q (get_or xs k 0) → ⊥
 
 -- its place among names, or their number; the names below LETTERS are letters
 abbrev pub first_in : List ℕ → ℕ
@@ -40,11 +44,6 @@ Found N (Some p) = FoundAt N p.side p.at
 Found N None = (first_in N.on_left ≡ length N.on_left) × (first_in N.on_right ≡ length N.on_right)
 
 -- ---- equal compounds
-
--- the first place of a name of the kind, or that there is none
-abbrev pub Stands : (ℕ → Type 0) → List ℕ → Option ℕ → Type 0
-Stands Q xs (Some j) = (j < length xs) × Q (get_or xs j 0) × ((k : ℕ) → k < j → Q (get_or xs k 0) → ⊥)
-Stands Q xs None = (k : ℕ) → k < length xs → Q (get_or xs k 0) → ⊥
 
 -- a compound stands at this left place and at this right place
 pub record EqualAt (N : Seq ℕ) (i j : ℕ) : Type 0 where

@@ -1,15 +1,15 @@
 -- What one pass stores, and the premise that it makes.
-use Rattle.std.specs.Prelude.{◌≡◌, List, ◌++◌, ℕ, ◌+◌, ◌≤◌, length, take, drop}
+use Rattle.std.specs.Prelude.{◌≡◌, List, ◌++◌, ℕ, ◌+◌, ◌-◌, ◌≤◌, length, take, drop}
 use Rattle.std.specs.Int.Bits.{bit_or}
 use Rattle.calculus.specs.declared.Side.{Side}
 use Rattle.calculus.specs.Limits.{ROOM}
 use Rattle.calculus.specs.Syntax.{Seq, size}
 use Rattle.calculus.specs.Table.{premise}
-use Rattle.sequent.specs.declared.Placing.{Placing}
 use Rattle.sequent.specs.declared.Pass.{Pass}
+use Rattle.sequent.specs.declared.Growing.{Growing}
 use Rattle.sequent.specs.declared.Running.{Running}
 use Rattle.sequent.specs.declared.Counted.{Counted}
-use Rattle.sequent.specs.Rule.{parts_on, placed}
+use Rattle.sequent.specs.Rule.{Placing, parts_on, placed}
 use Rattle.sequent.specs.View.{view, mask_of, set_of, letters_of, compounds_of}
 
 -- room for n places more
@@ -27,6 +27,10 @@ pub record Stored (a b : Pass) (f : ℕ) (xs old new : List ℕ) : Type 0 where
   pub to : b.to ≡ a.to + length xs
   pub stores : b.stores ≡ a.stores + length xs
   pub from : b.from ≡ f
+
+-- the running sequent of a left half and a right one, and the stores of both; the left one's names end at a place of the list
+abbrev pub both : Growing → Growing → ℕ → Counted Running
+both l r n = record { value = record { left = record l.half { count = n }; right = record r.half { count = r.pass.to - n } }; stores = r.pass.stores }
 
 -- the list of a sequent of names: the left side's, then the right side's
 abbrev pub listed : Seq ℕ → List ℕ

@@ -2,13 +2,16 @@
 use Rattle.std.specs.Prelude.{List, [], ◌∷◌, ◌++◌, map}
 use Rattle.calculus.specs.declared.Side.{Side}
 use Rattle.calculus.specs.declared.Side.TheVariants.{Left, Right}
-use Rattle.calculus.specs.Syntax.{Connective, Seq}
+use Rattle.calculus.specs.declared.Pair.{Pair}
+use Rattle.calculus.specs.Syntax.{side_of, Connective, Seq}
 use Rattle.calculus.specs.Table.{Part, F, G, Put, L, R, table, on}
-use Rattle.sequent.specs.declared.Placing.{Placing}
 use Rattle.sequent.specs.declared.Which.{Which}
 use Rattle.sequent.specs.declared.Which.TheVariants.{Neither, First, Second, Both}
 
--- which parts a list holds: in the table's no part stands twice, and F stands before G
+abbrev pub Placing : Type 0
+Placing = Pair Which
+
+-- which parts a list names: `Both` for a list of two, of which the table has but F and then G
 abbrev pub which : List Part → Which
 which [] = Neither
 which (F ∷ []) = First
@@ -22,20 +25,16 @@ placing ps = record { left = which (on Left ps); right = which (on Right ps) }
 abbrev pub rule_of : Connective → Side → List Placing
 rule_of k s = map placing (table k s)
 
--- the parts that a premise puts on a side
-abbrev pub which_on : Side → Placing → Which
-which_on Left p = p.left
-which_on Right p = p.right
-
--- those of x and y, x before y
+-- those of x and y that are named, x before y
 abbrev pub pick : {X : Type 0} → Which → X → X → List X
 pick Neither x y = []
 pick First x y = x ∷ []
 pick Second x y = y ∷ []
 pick Both x y = x ∷ y ∷ []
 
+-- the parts that a premise puts on a side
 abbrev pub parts_on : {X : Type 0} → Side → Placing → X → X → List X
-parts_on s p x y = pick (which_on s p) x y
+parts_on s p x y = pick (side_of p s) x y
 
 abbrev pub premise_of : Placing → Seq Part
 premise_of p = record { on_left = parts_on Left p F G; on_right = parts_on Right p F G }

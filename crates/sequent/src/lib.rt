@@ -10,10 +10,10 @@ ghost use Rattle.calculus.specs.Bytes.{CONNECTIVE, code};
 ghost use Rattle.calculus.specs.Table.{premise};
 ghost use Rattle.question.specs.Connectives.{connective_of, command_of};
 ghost use Rattle.sequent.specs.Names.{first_of, second_of};
-ghost use Rattle.sequent.specs.Rule.{rule_of, which_on, parts_on, placed};
+ghost use Rattle.sequent.specs.Rule.{rule_of, parts_on, placed};
 ghost use Rattle.sequent.specs.View.{view, count_of, slot_of, end_of, start_of};
 ghost use Rattle.sequent.specs.View.{grown, joined, Covered, Good, name_at};
-ghost use Rattle.sequent.specs.Passes.{Fits, Stored, Builds};
+ghost use Rattle.sequent.specs.Passes.{Fits, Stored, both, Builds};
 ghost use Rattle.sequent.specs.Compounds.{Clear, Found, Stands, Paired, rule_for, reduction_at};
 
 mod order;
@@ -69,6 +69,7 @@ pub struct Running {
 // The nodes of a question's compounds and the names of a sequent's formulas. The running sequent stays beside them, and so what
 // holds of all three (`Good`, `Clear`, `Reachable`, `Makes`) stays in clauses, here and in the crates above: `Good` tells which
 // formulas the names stand for, by how many nodes, and a ghost field takes only facts that have one proof (it was tried).
+// The nodes are lent as their list: a slice is two words, stored and read for each premise.
 #[derive(Clone, Copy)]
 pub struct Names<'a> {
     pub nodes: &'a ArrayVec<u32, ALL_CONNECTIVES>,
@@ -85,11 +86,7 @@ pub enum Which {
 }
 
 // A premise of the table: which parts go left, and which right.
-#[derive(Clone, Copy)]
-pub struct Placing {
-    pub left: Which,
-    pub right: Which,
-}
+pub type Placing = Pair<Which>;
 
 // The names of a formula's two parts, and where they go in a premise.
 #[derive(Clone, Copy)]
@@ -123,7 +120,7 @@ pub struct Pass {
     pub stores: usize,
 }
 
-// A pass and the half of the side that it stores for: a part that it stores joins the half's letters or compounds.
+// A pass, and the half whose letters or compounds the next parts join.
 #[derive(Clone, Copy)]
 struct Growing {
     pass: Pass,
@@ -148,32 +145,26 @@ const FG: Which = Which::Both;
 // The ten reductions, NOT to EQUIV, each on the left and on the right: the parts that go left and right in each premise.
 static RULES: [[&[Placing]; 2]; 5] = [
     // NOT
-    [
-        &[Placing { left: N, right: F }],
-        &[Placing { left: F, right: N }],
-    ],
+    [&[Pair { left: N, right: F }], &[Pair { left: F, right: N }]],
     // AND
     [
-        &[Placing { left: FG, right: N }],
-        &[Placing { left: N, right: F }, Placing { left: N, right: G }],
+        &[Pair { left: FG, right: N }],
+        &[Pair { left: N, right: F }, Pair { left: N, right: G }],
     ],
     // OR
     [
-        &[Placing { left: F, right: N }, Placing { left: G, right: N }],
-        &[Placing { left: N, right: FG }],
+        &[Pair { left: F, right: N }, Pair { left: G, right: N }],
+        &[Pair { left: N, right: FG }],
     ],
     // IMPLIES
     [
-        &[Placing { left: G, right: N }, Placing { left: N, right: F }],
-        &[Placing { left: F, right: G }],
+        &[Pair { left: G, right: N }, Pair { left: N, right: F }],
+        &[Pair { left: F, right: G }],
     ],
     // EQUIV
     [
-        &[
-            Placing { left: FG, right: N },
-            Placing { left: N, right: FG },
-        ],
-        &[Placing { left: F, right: G }, Placing { left: G, right: F }],
+        &[Pair { left: FG, right: N }, Pair { left: N, right: FG }],
+        &[Pair { left: F, right: G }, Pair { left: G, right: F }],
     ],
 ];
 
@@ -263,20 +254,8 @@ impl Pass {
     }
 }
 
-impl Placing {
-    // The parts that go to a side.
-    fn on(self, side: Side) -> Which
-        ensures { result ≡ which_on side self }
-    {
-        match side {
-            Side::Left => self.left,
-            Side::Right => self.right,
-        }
-    }
-}
-
 impl Growing {
-    // The old places up to one: their bits are in the half.
+    // The old places up to one. They bring no bits: those are in the half of their own side.
     fn copy(self, old: &[u8; ROOM], new: &mut [u8; ROOM], end: usize) -> Growing
         requires { (self.pass.from ≤ end) × (end ≤ Limits.ROOM) × Fits self.pass (end - self.pass.from) new.old }
         ensures { Stored self.pass result.pass end (slice self.pass.from end old.now) new.old new.new × (result.half ≡ self.half) }
@@ -311,6 +290,26 @@ impl Growing {
             Which::Second => self.part(new, x.g),
             Which::Both => self.part(new, x.f).part(new, x.g),
         }
+    }
+}
+
+// The running sequent of a left half and a right one, where the left one's names end at a place of the list.
+fn both(l: Growing, r: Growing, end: usize) -> Counted<Running>
+    requires { end ≤ r.pass.to }
+    ensures { result ≡ both l r end }
+{
+    Counted {
+        value: Running {
+            left: Half {
+                count: end,
+                ..l.half
+            },
+            right: Half {
+                count: r.pass.to - end,
+                ..r.half
+            },
+        },
+        stores: r.pass.stores,
     }
 }
 
@@ -461,16 +460,7 @@ impl Running {
                     ..l
                 };
                 let r = self.append(next, old, new, Side::Right, x);
-                let k = l.pass.to + (self.left.count - l.pass.from);
-                let left = Half { count: k, ..l.half };
-                let right = Half {
-                    count: r.pass.to - k,
-                    ..r.half
-                };
-                Counted {
-                    value: Running { left, right },
-                    stores: r.pass.stores,
-                }
+                both(l, r, l.pass.to + (self.left.count - l.pass.from))
             }
             Side::Right => {
                 let l = self.append(start, old, new, Side::Left, x);
@@ -479,16 +469,7 @@ impl Running {
                     ..l
                 };
                 let r = self.replace(next, old, new, p, x).copy(old, new, n);
-                let k = l.pass.to;
-                let left = Half { count: k, ..l.half };
-                let right = Half {
-                    count: r.pass.to - k,
-                    ..r.half
-                };
-                Counted {
-                    value: Running { left, right },
-                    stores: r.pass.stores,
-                }
+                both(l, r, l.pass.to)
             }
         }
     }

@@ -20,7 +20,7 @@ use Rattle.calculus.proofs.Buffers.{sets_append, sets_start}
 use Rattle.calculus.proofs.Derivations.{written_all_append}
 use Rattle.calculus.proofs.Trees.{tree_grows, right_step, bit_state}
 use Rattle.prover.proofs.Closings.{bit_below}
-use Rattle.sequent.specs.declared.Placing.{Placing}
+use Rattle.sequent.specs.Rule.{Placing}
 use Rattle.sequent.specs.declared.Running.{Running}
 use Rattle.sequent.specs.View.{view, sequent_of}
 use Rattle.sequent.specs.Compounds.{FoundAt, compound_at, rule_for, premises_at, premise_by, Makes}

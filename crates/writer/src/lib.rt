@@ -94,7 +94,7 @@ fn emit(t: Names<'_>, s: Running, from: usize, out: &mut [u8]) -> usize
     }
 }
 
-// A premise of the reduction, made, and its derivation (`Running::premise` says why it goes on here).
+// A premise of the reduction, made, and its derivation: the one call of the recursion, as in the run.
 #[cycle(emit_emit_premise_emit_premises)]
 #[inline(never)]
 fn emit_premise(

@@ -15,7 +15,7 @@ returns-in-Left c =
     let l = c.replace-l in
     let r = c.append-r in
     let replaced = rw told at l.ensures.0 in
-    rw told (premise_made a.self a.old.now c.told-old h.1 a.x.p a.x.f a.x.g a.p.at Left inside
+    rw (told, c.both.ensures) (premise_made a.self a.old.now c.told-old h.1 a.x.p a.x.f a.x.g a.p.at Left inside
     (chain_at (λ (v : ℕ). slice v (a.self.left.count + a.self.right.count) a.old.now ++ parts_on Right a.x.p a.x.f a.x.g) replaced r.ensures.0)
     (l.result.pass.to + (a.self.left.count - l.result.pass.from))
     (omega (arith, h, inside, replaced.from, replaced.to, end_length 0 a.p.at (parts_on Left a.x.p a.x.f a.x.g) a.old.now (omega arith) (omega (arith, h, inside)), splice_length 0 a.p.at a.self.left.count (parts_on Left a.x.p a.x.f a.x.g) a.old.now (omega arith) inside (omega (arith, h))))
@@ -30,7 +30,7 @@ returns-in-Right c =
     let l = c.append-l in
     let r = c.replace in
     let e = c.copy-r in
-    rw told (premise_made a.self a.old.now c.told-old h.1 a.x.p a.x.f a.x.g a.p.at Right inside
+    rw (told, c.both-in-Right.ensures) (premise_made a.self a.old.now c.told-old h.1 a.x.p a.x.f a.x.g a.p.at Right inside
     (chain_at (λ (v : ℕ). slice v (a.self.left.count + a.self.right.count) a.old.now)
     (chain_at (λ (v : ℕ). slice v (a.self.left.count + a.p.at) a.old.now ++ parts_on Right a.x.p a.x.f a.x.g) l.ensures.0 (rw told at r.ensures.0)) e.ensures.0)
     l.result.pass.to

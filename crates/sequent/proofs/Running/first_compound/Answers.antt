@@ -15,8 +15,7 @@ returns-then-i-lefts c =
     let a = c.args in
     let h = c.requires in
     let j = c.in_ok-i.field-0 in
-    let f = c.in_ok-i.ensures in
-    found_left a.self a.items.now c.told-items h.0 a.from h.1 (a.from + j) (omega (arith, first_stands (behind a.self a.items.now a.from) j f.0 f.1 f.2)) c.if-i-lefts.true
+    found_left a.self a.items.now c.told-items h.0 a.from h.1 (a.from + j) (omega (arith, first_stands (behind a.self a.items.now a.from) j c.in_ok-i.ensures)) c.if-i-lefts.true
 
 pub returns-else-i-lefts : goal.returns-else-i-lefts
 returns-else-i-lefts c =
@@ -24,5 +23,5 @@ returns-else-i-lefts c =
     let h = c.requires in
     let j = c.in_ok-i.field-0 in
     let f = c.in_ok-i.ensures in
-    found_right a.self a.items.now c.told-items h.0 a.from h.1 (a.from + j) (omega (arith, first_stands (behind a.self a.items.now a.from) j f.0 f.1 f.2)) c.if-i-lefts.false
+    found_right a.self a.items.now c.told-items h.0 a.from h.1 (a.from + j) (omega (arith, first_stands (behind a.self a.items.now a.from) j f)) c.if-i-lefts.false
     (omega (arith, f.0, behind_count a.self a.items.now c.told-items h.0 a.from h.1))
