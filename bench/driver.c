@@ -14,7 +14,7 @@ decide before_decide;
 #define before_decide gekunday_decide
 #endif
 #ifdef WITH_CLANG
-decide peer_value_decide_clang, peer_best_decide_clang, peer_sets_decide_clang;
+decide peer_value_decide_clang, peer_premises_decide_clang, peer_best_decide_clang, peer_sets_decide_clang;
 read_call peer_scan_clang;
 #else
 #define peer_value_decide_clang peer_value_decide
@@ -42,6 +42,10 @@ static void list_implementations(results *r, bool lisp)
     add(r, "peer_value (" CC_NAME ")", "C, sequent copied for each premise", peer_value_decide, TREE);
 #ifdef WITH_CLANG
     add(r, "peer_value (clang)", "the same", peer_value_decide_clang, TREE);
+#endif
+    add(r, "peer_premises (" CC_NAME ")", "C, each premise in one pass, as the library", peer_premises_decide, TREE);
+#ifdef WITH_CLANG
+    add(r, "peer_premises (clang)", "the same", peer_premises_decide_clang, TREE);
 #endif
     add(r, "peer_best (" CC_NAME ")", "C, in place, copied at two premises only", peer_best_decide, TREE);
 #ifdef WITH_CLANG

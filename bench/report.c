@@ -72,13 +72,13 @@ static void write_peers(FILE *file, const char *const names[PEERS], const peers_
 
 static void write_headline(FILE *file, const results *r)
 {
-    static const char *const peers[] = { "peer_value", "peer_best", "peer_sets" };
+    static const char *const peers[] = { "peer_value", "peer_premises", "peer_best", "peer_sets" };
     static const char *const listers[] = { "peer_each", "peer_table", "peer_words", "peer_levels" };
     static const char *const spelled[] = { "on spelling editor-size questions", "near the limits", "on equal conditions",
                                            "with repeats", "with 212 bytes" };
     static const char *const clauses[] = { "on editor-size clauses", "near the limits", "on chains" };
     fprintf(file, "Against the faster build of each C peer:\n\n");
-    for (int i = 0; i < 3; i++)
+    for (int i = 0; i < 4; i++)
         fprintf(file, "- %s: **%.2f** on editor-size questions, **%.2f** near the limits, **%.2f** on equal conditions\n",
                 peers[i], ratio(r, EDITOR, peers[i]), ratio(r, LIMITS, peers[i]), ratio(r, CONDITIONS, peers[i]));
     for (int i = 0; i < 4; i++)
