@@ -8,7 +8,7 @@ enum { REPEATS = SETS, LONGEST, SPELLED_SETS };
 enum { FEW_CLAUSES, MANY_CLAUSES, CHAINS, CLAUSES_SETS };
 enum { SORTED, INSERTION, UNITS = 0, ONEPASS, PEERS }; // those that spell, and those that decide clauses
 enum { OURS = PEERS, BEFORE, DECIDE_CALL, TIMES }; // ours, the archive's before, and gekunday_decide's on clauses
-enum { CALLS = 7, MOST_IMPLEMENTATIONS = 16, MOST_LISTERS = 16, MOST_KINDS = 16, MOST_ROUNDS = 101 };
+enum { CALLS = 7, MOST_IMPLEMENTATIONS = 16, MOST_LISTERS = 16, MOST_KINDS = 16, MOST_ROUNDS = 101, MOST_ORDERS = 16 };
 enum { DAMAGES = LETTERS + 16 }; // a changed byte is below this: a command, a letter, or one too high
 
 // How many words of the answer, beside its number, must be the same as peer_value's.
@@ -68,7 +68,8 @@ typedef struct {
     int questions;
 } stack_use;
 
-typedef struct {
+typedef struct results results;
+struct results {
     question_set sets[SETS];
     implementation implementations[MOST_IMPLEMENTATIONS]; // the first is the library under test
     int count, rounds;
@@ -88,7 +89,9 @@ typedef struct {
     formula_time formulas[SPELLED_SETS];
     derivation_time derivations[SETS + DISTINCT_SETS];
     stack_use stacks[CALLS];
-} results;
+    const results *orders; // those of each link order; then all times here are the means over them
+    int orders_count;
+};
 
 double now(void); // nanoseconds
 void sum_up(double *samples, int count, double *best, double *median);
@@ -120,6 +123,10 @@ void time_formulas(results *r);
 // Writing and checking derivations of the theorems, by the library and by the archive before, if one is given.
 void check_derivations(const results *r);
 void time_derivations(results *r);
+
+// Writes the times of a link order to a file in the directory. Reads those of so many: all times become the means.
+void write_times(results *r, const char *directory, int order);
+void take_means(results *r, const char *directory, int count);
 
 void write_table(FILE *file, const results *r);
 void write_plot(FILE *file, const results *r);

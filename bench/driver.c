@@ -1,10 +1,13 @@
-// Checks that all agree, then times them in turn and writes the table and the plot into the directory given.
+// Checks that all agree, then times them in turn and writes the times into the directory given. The driver of the last
+// link order then writes the table and the plot.
 #include "bench.h"
 #include "lisp.h"
 #include <gekunday.h>
 #include <stdlib.h>
 #include <string.h>
 #include <time.h>
+
+enum { ROUNDS = 6 }; // in each link order, unless BENCH_ROUNDS is set
 
 typedef uint32_t read_call(const uint8_t *question, size_t length, uint64_t out[2]);
 
@@ -14,7 +17,7 @@ decide before_decide;
 #define before_decide gekunday_decide
 #endif
 #ifdef WITH_CLANG
-decide peer_value_decide_clang, peer_best_decide_clang, peer_sets_decide_clang;
+decide peer_value_decide_clang, peer_premises_decide_clang, peer_best_decide_clang, peer_sets_decide_clang;
 read_call peer_scan_clang;
 #else
 #define peer_value_decide_clang peer_value_decide
@@ -42,6 +45,10 @@ static void list_implementations(results *r, bool lisp)
     add(r, "peer_value (" CC_NAME ")", "C, sequent copied for each premise", peer_value_decide, TREE);
 #ifdef WITH_CLANG
     add(r, "peer_value (clang)", "the same", peer_value_decide_clang, TREE);
+#endif
+    add(r, "peer_premises (" CC_NAME ")", "C, each premise in one pass, as the library", peer_premises_decide, TREE);
+#ifdef WITH_CLANG
+    add(r, "peer_premises (clang)", "the same", peer_premises_decide_clang, TREE);
 #endif
     add(r, "peer_best (" CC_NAME ")", "C, in place, copied at two premises only", peer_best_decide, TREE);
 #ifdef WITH_CLANG
@@ -403,39 +410,58 @@ static void make_sets(results *r)
     r->clauses[CHAINS] = chains_set();
 }
 
+static void time_calls(results *r)
+{
+    time_all(r);
+    for (int s = 0; s < DISTINCT_SETS; s++)
+        time_distinct(&r->distincts[s], &r->distinct[s], r->rounds);
+    time_spread(&r->spread_time, &r->spread, &r->sets[EDITOR], r->rounds);
+    for (int s = 0; s < SETS; s++)
+        time_reading(&r->readings[s], &r->sets[s], r->rounds);
+    time_reading(&r->readings[SETS], &r->longest, r->rounds);
+    time_formulas(r);
+    time_derivations(r);
+    time_listing(r);
+    time_spelling(r);
+    time_clauses(r);
+}
+
+static void report(results *r, const char *out, int orders)
+{
+    take_means(r, out, orders);
+    probe_stacks(r);
+    FILE *table = open_out(out, "table.md"), *plot = open_out(out, "plot.svg");
+    write_table(table, r);
+    write_table(stdout, r);
+    write_plot(plot, r);
+    fclose(table);
+    fclose(plot);
+}
+
+// The directory, which of the link orders this is, and how many there are.
 int main(int count, char **arguments)
 {
     static results r;
     const char *out = count > 1 ? arguments[1] : ".", *rounds = getenv("BENCH_ROUNDS");
+    int order = count > 2 ? atoi(arguments[2]) : 1, orders = count > 3 ? atoi(arguments[3]) : order;
+    if (order < 1 || order > orders || orders > MOST_ORDERS) {
+        fprintf(stderr, "bench: there can be 1 to %d link orders\n", MOST_ORDERS);
+        return 1;
+    }
     setvbuf(stdout, 0, _IOLBF, 0);
-    r.rounds = rounds ? atoi(rounds) : 15;
+    r.rounds = rounds ? atoi(rounds) : ROUNDS;
     if (r.rounds < 1 || r.rounds > MOST_ROUNDS)
-        r.rounds = 15;
+        r.rounds = ROUNDS;
     make_sets(&r);
     bool lisp = lisp_start(out, r.sets, SETS);
     list_implementations(&r, lisp);
     add_listers(&r);
     check_all(&r, lisp);
-    time_all(&r);
-    for (int s = 0; s < DISTINCT_SETS; s++)
-        time_distinct(&r.distincts[s], &r.distinct[s], r.rounds);
-    time_spread(&r.spread_time, &r.spread, &r.sets[EDITOR], r.rounds);
-    for (int s = 0; s < SETS; s++)
-        time_reading(&r.readings[s], &r.sets[s], r.rounds);
-    time_reading(&r.readings[SETS], &r.longest, r.rounds);
-    time_formulas(&r);
-    time_derivations(&r);
-    time_listing(&r);
-    time_spelling(&r);
-    time_clauses(&r);
-    probe_stacks(&r);
-    FILE *table = open_out(out, "table.md"), *plot = open_out(out, "plot.svg");
-    write_table(table, &r);
-    write_table(stdout, &r);
-    write_plot(plot, &r);
-    fclose(table);
-    fclose(plot);
+    time_calls(&r);
     if (lisp)
         lisp_stop();
+    write_times(&r, out, order);
+    if (order == orders)
+        report(&r, out, orders);
     return 0;
 }

@@ -49,7 +49,7 @@ uint64_t truth_falsified(const truth_program *p, const reading *r, const uint64_
 
 // As gekunday_decide. Those that build no tree leave the state and both counts 0.
 typedef uint32_t decide(const uint8_t *question, size_t length, uint64_t budget, uint64_t out[4]);
-decide peer_value_decide, peer_best_decide, peer_sets_decide, truth_table_decide, cadical_decide;
+decide peer_value_decide, peer_premises_decide, peer_best_decide, peer_sets_decide, truth_table_decide, cadical_decide;
 
 // As peer_sets_decide, but a compound closes only if it has at least so many connectives; with ONLY_LETTERS none does, as
 // before document 02's c. To choose questions by, and to count what the closing saves.

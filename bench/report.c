@@ -13,10 +13,29 @@ static void format_time(char *text, int room, double ns)
         snprintf(text, room, ns < 1e7 ? "%.2f ms" : "%.1f ms", ns / 1e6);
 }
 
+// One of the results' times in a link order: it stands at the same place of that order's results.
+static double in_order(const results *r, int order, const double *time)
+{
+    return *(const double *)((const char *)&r->orders[order] + ((const char *)time - (const char *)r));
+}
+
+// The ratio of two times, between marks, and the range of what it is in each link order if there are several.
+static void write_ratio(FILE *file, const results *r, const double *ours, const double *theirs, const char *mark)
+{
+    double least = INFINITY, greatest = 0;
+    for (int k = 0; k < r->orders_count; k++) {
+        double ratio = in_order(r, k, ours) / in_order(r, k, theirs);
+        least = fmin(least, ratio);
+        greatest = fmax(greatest, ratio);
+    }
+    fprintf(file, "%s%.2f%s", mark, *ours / *theirs, mark);
+    if (r->orders_count > 1 && ours != theirs)
+        fprintf(file, " (%.2f to %.2f)", least, greatest);
+}
+
 static void write_set(FILE *file, const results *r, int s)
 {
     const question_set *set = &r->sets[s];
-    double ours = r->implementations[0].best[s];
     fprintf(file, "## %s\n\n", set->title);
     fprintf(file, "%d questions, %d of them refuted; %.0f reductions a question on average, ", set->count,
             (int)set->refuted, (double)set->reductions / set->count);
@@ -30,61 +49,85 @@ static void write_set(FILE *file, const results *r, int s)
         format_time(median, sizeof median, m->median[s]);
         if (m->agrees == TREE)
             format_time(reduction, sizeof reduction, m->best[s] * set->count / set->reductions);
-        fprintf(file, "| %s | %s | %s | %s | %s | %.2f |\n", m->name, m->note, best, reduction, median,
-                ours / m->best[s]);
+        fprintf(file, "| %s | %s | %s | %s | %s | ", m->name, m->note, best, reduction, median);
+        write_ratio(file, r, &r->implementations[0].best[s], &m->best[s], "");
+        fprintf(file, " |\n");
     }
     fprintf(file, "\n");
 }
 
-// The library's time over that of a peer's faster build.
-static double ratio(const results *r, int s, const char *peer)
+// The time of a peer's faster build.
+static const double *faster(const results *r, int s, const char *peer)
 {
-    double least = INFINITY;
-    for (int k = 0; k < r->count; k++)
-        if (!strncmp(r->implementations[k].name, peer, strlen(peer)))
-            least = fmin(least, r->implementations[k].best[s]);
-    return r->implementations[0].best[s] / least;
+    const double *least = 0;
+    for (int k = 0; k < r->count; k++) {
+        const double *time = &r->implementations[k].best[s];
+        if (!strncmp(r->implementations[k].name, peer, strlen(peer)) && (!least || *time < *least))
+            least = time;
+    }
+    return least;
 }
 
-static double listing_ratio(const results *r, const char *peer)
+static const double *faster_lister(const results *r, const char *peer)
 {
-    double least = INFINITY;
-    for (int k = 0; k < r->listers_count; k++)
-        if (!strncmp(r->listers[k].name, peer, strlen(peer)))
-            least = fmin(least, r->listers[k].best);
-    return r->listers[0].best / least;
+    const double *least = 0;
+    for (int k = 0; k < r->listers_count; k++) {
+        const double *time = &r->listers[k].best;
+        if (!strncmp(r->listers[k].name, peer, strlen(peer)) && (!least || *time < *least))
+            least = time;
+    }
+    return least;
 }
 
 static const char *const spell_peers[PEERS] = { [SORTED] = "peer_sorted", [INSERTION] = "peer_insertion" };
 static const char *const clauses_peers[PEERS] = { [UNITS] = "peer_units", [ONEPASS] = "peer_onepass" };
 
 // The library's time over each peer's, set by set.
-static void write_peers(FILE *file, const char *const names[PEERS], const peers_time *times, int sets,
+static void write_peers(FILE *file, const results *r, const char *const names[PEERS], const peers_time *times, int sets,
                         const char *const where[])
 {
     for (int i = 0; i < PEERS; i++) {
         fprintf(file, "- %s:", names[i]);
-        for (int s = 0; s < sets; s++)
-            fprintf(file, "%s **%.2f** %s", s ? "," : "", times[s].best[OURS] / times[s].best[i], where[s]);
+        for (int s = 0; s < sets; s++) {
+            fprintf(file, s ? ", " : " ");
+            write_ratio(file, r, &times[s].best[OURS], &times[s].best[i], "**");
+            fprintf(file, " %s", where[s]);
+        }
+        fprintf(file, "\n");
+    }
+}
+
+// The library's time over each peer's that decides, set by set.
+static void write_deciders(FILE *file, const results *r)
+{
+    static const char *const peers[] = { "peer_value", "peer_premises", "peer_best", "peer_sets" };
+    static const char *const where[SETS] = { "on editor-size questions", "near the limits", "on equal conditions" };
+    for (size_t i = 0; i < sizeof peers / sizeof *peers; i++) {
+        fprintf(file, "- %s:", peers[i]);
+        for (int s = 0; s < SETS; s++) {
+            fprintf(file, s ? ", " : " ");
+            write_ratio(file, r, &r->implementations[0].best[s], faster(r, s, peers[i]), "**");
+            fprintf(file, " %s", where[s]);
+        }
         fprintf(file, "\n");
     }
 }
 
 static void write_headline(FILE *file, const results *r)
 {
-    static const char *const peers[] = { "peer_value", "peer_best", "peer_sets" };
     static const char *const listers[] = { "peer_each", "peer_table", "peer_words", "peer_levels" };
     static const char *const spelled[] = { "on spelling editor-size questions", "near the limits", "on equal conditions",
                                            "with repeats", "with 212 bytes" };
     static const char *const clauses[] = { "on editor-size clauses", "near the limits", "on chains" };
     fprintf(file, "Against the faster build of each C peer:\n\n");
-    for (int i = 0; i < 3; i++)
-        fprintf(file, "- %s: **%.2f** on editor-size questions, **%.2f** near the limits, **%.2f** on equal conditions\n",
-                peers[i], ratio(r, EDITOR, peers[i]), ratio(r, LIMITS, peers[i]), ratio(r, CONDITIONS, peers[i]));
-    for (int i = 0; i < 4; i++)
-        fprintf(file, "- %s: **%.2f** on listing the states\n", listers[i], listing_ratio(r, listers[i]));
-    write_peers(file, spell_peers, r->spellings, SPELLED_SETS, spelled);
-    write_peers(file, clauses_peers, r->clauses_times, CLAUSES_SETS, clauses);
+    write_deciders(file, r);
+    for (int i = 0; i < 4; i++) {
+        fprintf(file, "- %s: ", listers[i]);
+        write_ratio(file, r, &r->listers[0].best, faster_lister(r, listers[i]), "**");
+        fprintf(file, " on listing the states\n");
+    }
+    write_peers(file, r, spell_peers, r->spellings, SPELLED_SETS, spelled);
+    write_peers(file, r, clauses_peers, r->clauses_times, CLAUSES_SETS, clauses);
     fprintf(file, "\n");
 }
 
@@ -100,7 +143,9 @@ static void write_listing(FILE *file, const results *r)
         char best[32], median[32];
         format_time(best, sizeof best, l->best);
         format_time(median, sizeof median, l->median);
-        fprintf(file, "| %s | %s | %s | %s | %.2f |\n", l->name, l->note, best, median, r->listers[0].best / l->best);
+        fprintf(file, "| %s | %s | %s | %s | ", l->name, l->note, best, median);
+        write_ratio(file, r, &r->listers[0].best, &l->best, "");
+        fprintf(file, " |\n");
     }
     fprintf(file, "\n");
 }
@@ -114,8 +159,9 @@ static void write_spread(FILE *file, const results *r)
     format_time(low, sizeof low, t->low);
     fprintf(file, "## Letters over all %d\n\n| questions | gekunday | peer_value, faster build | ", LETTERS);
     fprintf(file, "gekunday / peer_value | gekunday, low letters | high / low |\n|---|---:|---:|---:|---:|---:|\n");
-    fprintf(file, "| %s (%d) | %s | %s | %.2f | %s | %.2f |\n\n", t->set->title, t->set->count, ours, peer,
-            t->ours / t->peer, low, t->ours / t->low);
+    fprintf(file, "| %s (%d) | %s | %s | ", t->set->title, t->set->count, ours, peer);
+    write_ratio(file, r, &t->ours, &t->peer, "");
+    fprintf(file, " | %s | %.2f |\n\n", low, t->ours / t->low);
 }
 
 // The line below a table's head, for so many columns of numbers.
@@ -137,14 +183,16 @@ static void end_head(FILE *file, int numbers)
     write_rule(file, numbers);
 }
 
-static void end_row(FILE *file, double ours, double before)
+static void end_row(FILE *file, const results *r, const double *ours, const double *before)
 {
 #ifdef WITH_BEFORE
     char text[32];
-    format_time(text, sizeof text, before);
-    fprintf(file, " %s | %.2f |", text, ours / before);
+    format_time(text, sizeof text, *before);
+    fprintf(file, " %s | ", text);
+    write_ratio(file, r, ours, before, "");
+    fprintf(file, " |");
 #else
-    (void)ours, (void)before;
+    (void)r, (void)ours, (void)before;
 #endif
     fprintf(file, "\n");
 }
@@ -159,8 +207,10 @@ static void write_distinct(FILE *file, const results *r)
         char ours[32], peer[32];
         format_time(ours, sizeof ours, t->ours);
         format_time(peer, sizeof peer, t->peer);
-        fprintf(file, "| %s (%d) | %s | %s | %.2f |", t->set->title, t->set->count, ours, peer, t->ours / t->peer);
-        end_row(file, t->ours, t->before);
+        fprintf(file, "| %s (%d) | %s | %s | ", t->set->title, t->set->count, ours, peer);
+        write_ratio(file, r, &t->ours, &t->peer, "");
+        fprintf(file, " |");
+        end_row(file, r, &t->ours, &t->before);
     }
     fprintf(file, "\n");
 }
@@ -172,14 +222,16 @@ static void begin_peers_head(FILE *file, const char *const names[PEERS])
         fprintf(file, " %s, faster build | gekunday / %s |", names[i], names[i]);
 }
 
-static void begin_peers_row(FILE *file, const peers_time *t)
+static void begin_peers_row(FILE *file, const results *r, const peers_time *t)
 {
     char time[32];
     format_time(time, sizeof time, t->best[OURS]);
     fprintf(file, "| %s (%d) | %s |", t->set->title, t->set->count, time);
     for (int i = 0; i < PEERS; i++) {
         format_time(time, sizeof time, t->best[i]);
-        fprintf(file, " %s | %.2f |", time, t->best[OURS] / t->best[i]);
+        fprintf(file, " %s | ", time);
+        write_ratio(file, r, &t->best[OURS], &t->best[i], "");
+        fprintf(file, " |");
     }
 }
 
@@ -190,8 +242,8 @@ static void write_spelling(FILE *file, const results *r)
     end_head(file, 1 + 2 * PEERS);
     for (int s = 0; s < SPELLED_SETS; s++) {
         const peers_time *t = &r->spellings[s];
-        begin_peers_row(file, t);
-        end_row(file, t->best[OURS], t->best[BEFORE]);
+        begin_peers_row(file, r, t);
+        end_row(file, r, &t->best[OURS], &t->best[BEFORE]);
     }
     fprintf(file, "\n");
 }
@@ -206,11 +258,11 @@ static void write_clauses(FILE *file, const results *r)
         const peers_time *t = &r->clauses_times[s];
         const question_set *set = t->set;
         char decide[32];
-        begin_peers_row(file, t);
+        begin_peers_row(file, r, t);
         format_time(decide, sizeof decide, t->best[DECIDE_CALL]);
         fprintf(file, " %s | %.1f | %.1f | %.1f |", decide, t->best[DECIDE_CALL] / t->best[OURS],
                 (double)set->rounds / set->count, (double)set->reductions / set->count);
-        end_row(file, t->best[OURS], t->best[BEFORE]);
+        end_row(file, r, &t->best[OURS], &t->best[BEFORE]);
     }
     fprintf(file, "\n");
 }
@@ -226,7 +278,9 @@ static void write_readings(FILE *file, const results *r)
         format_time(peer, sizeof peer, t->peer);
         if (i < SETS)
             snprintf(share, sizeof share, "%.1f %%", 100 * t->ours / r->implementations[0].best[i]);
-        fprintf(file, "| %s | %s | %s | %.2f | %s |\n", t->set, ours, peer, t->ours / t->peer, share);
+        fprintf(file, "| %s | %s | %s | ", t->set, ours, peer);
+        write_ratio(file, r, &t->ours, &t->peer, "");
+        fprintf(file, " | %s |\n", share);
     }
 }
 
@@ -239,7 +293,7 @@ static void write_formulas(FILE *file, const results *r)
         char ours[32];
         format_time(ours, sizeof ours, t->ours);
         fprintf(file, "| %s (%d) | %s |", t->set->title, t->set->count, ours);
-        end_row(file, t->ours, t->before);
+        end_row(file, r, &t->ours, &t->before);
     }
 }
 
@@ -263,7 +317,11 @@ static void write_derivations(FILE *file, const results *r)
         fprintf(file, "| %s (%d) | %s | %s | %.2f | %s | %.2f |", t->set, t->theorems, decide, derive,
                 t->derive / t->decide, check, t->check / t->decide);
 #ifdef WITH_BEFORE
-        fprintf(file, " %.2f | %.2f |", t->derive / t->derive_before, t->check / t->check_before);
+        fprintf(file, " ");
+        write_ratio(file, r, &t->derive, &t->derive_before, "");
+        fprintf(file, " | ");
+        write_ratio(file, r, &t->check, &t->check_before, "");
+        fprintf(file, " |");
 #endif
         fprintf(file, "\n");
     }
@@ -272,7 +330,10 @@ static void write_derivations(FILE *file, const results *r)
 void write_table(FILE *file, const results *r)
 {
     fprintf(file, "# Time of a decision\n\n");
-    fprintf(file, "Best of %d rounds (and the median); below 1.00 gekunday is the faster.\n\n", r->rounds);
+    fprintf(file, "Best of %d rounds (and the median)", r->rounds);
+    if (r->orders_count > 1)
+        fprintf(file, ", the mean over %d link orders; behind a ratio its range over them", r->orders_count);
+    fprintf(file, "; below 1.00 gekunday is the faster.\n\n");
     write_headline(file, r);
     for (int s = 0; s < SETS; s++)
         write_set(file, r, s);
