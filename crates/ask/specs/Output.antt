@@ -1,5 +1,5 @@
 -- "ask": what is printed for a question.
-use Rattle.std.specs.Prelude.{◌≡◌, refl, List, [], ◌∷◌, ◌++◌, ℕ, ◌+◌, ltb, length, codes}
+use Rattle.std.specs.Prelude.{◌≡◌, refl, List, [], ◌∷◌, ◌++◌, ℕ, ◌+◌, ◌*◌, ltb, length, codes}
 use Rattle.calculus.specs.declared.Kind.{Kind}
 use Rattle.calculus.specs.declared.Kind.TheVariants.{Theorem, Refuted, Spent}
 use Rattle.calculus.specs.declared.Verdict.{Verdict}
@@ -50,3 +50,7 @@ ask_text q = read_text (reading q) (question q)
 pub case_4 : ask_text (0x10 ∷ 1 ∷ 2 ∷ 4 ∷ 1 ∷ 0 ∷ 1 ∷ 1 ∷ 0x20 ∷ 1 ∷ 2 ∷ 1 ∷ 0 ∷ []) ≡ codes "theorem 3 1 1\n52 00 62 00 64 00 41 00\n"
 unfolding decimal
 case_4 = refl
+
+-- room for the longest text: a line of a word and four numbers, and the derivation's
+abbrev pub TEXT : ℕ
+TEXT = 100 + 3 * BUFFER

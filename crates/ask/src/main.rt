@@ -1,7 +1,7 @@
 // Decides the question on standard input, and prints its verdict and a theorem's derivation.
 #![tactic(auto)]
 
-ghost use Rattle.std.specs.Prelude.{◌≡◌, ◌<◌, ◌≤◌, length, IfOk, string_bytes};
+ghost use Rattle.std.specs.Prelude.{◌≡◌, [], ◌++◌, ◌+◌, ◌*◌, ◌<◌, ◌≤◌, length, IfOk};
 ghost use Rattle.std.specs.Io.KnownBytes.{Consumes, IsAtEnd};
 ghost use Rattle.calculus.specs.Bytes.{question};
 ghost use Rattle.calculus.specs.Derivation.{derivation};
@@ -9,14 +9,14 @@ ghost use Rattle.calculus.specs.Tree.{verdict};
 ghost use Rattle.ask.specs.Output as defined;
 ghost use Rattle.ask.specs.Output.{derivation_line, verdict_text, ask_text};
 
+use arrayvec::ArrayVec;
 use calculus::{Kind, Verdict};
-use print::{Hexadecimal, Refused};
+use print::{put_bytes, put_line, put_refused, put_word};
 use question::Question;
-use std::alloc::{AllocError, Global};
 use std::io;
 use std::io::Read;
 
-// The three constants stand in specs/Output.antt, too: the clauses name those, as `defined.INPUT`.
+// The four constants stand in specs/Output.antt, too: the clauses name those, as `defined.INPUT`.
 
 // The bytes read: those of the longest question, and one more.
 const INPUT: usize = question::LONGEST_QUESTION + 1;
@@ -26,31 +26,30 @@ const BUDGET: u64 = 1000000;
 // The bytes of the derivation's buffer.
 const BUFFER: usize = 4096;
 
-// A theorem's second line: its derivation in hexadecimal, or `no space`.
-fn derivation_line(alloc: Global, q: Question<'_>) -> Result<String, AllocError>
-    requires { (verdict defined.BUDGET (question q.bytes.now)).kind ≡ Kind.Theorem }
-    ensures { IfOk result (λ s. string_bytes s ≡ derivation_line (derivation (question q.entry.bytes.now))) }
+// The bytes of the longest text: a line of a word and four numbers, and the derivation's.
+const TEXT: usize = 100 + 3 * BUFFER;
+
+// What is printed, in fixed memory: there is room for every text, so that none fails for want of memory.
+type Text = ArrayVec<u8, TEXT>;
+
+// A theorem's second line, behind the first: its derivation in hexadecimal, or `no space`.
+fn put_derivation(q: Question<'_>, out: &mut Text)
+    requires theorem { (verdict defined.BUDGET (question q.bytes.now)).kind ≡ Kind.Theorem }
+    requires room { length out.old.items + 3 * defined.BUFFER + 9 ≤ defined.TEXT }
+    ensures { out.new.items ≡ out.old.items ++ derivation_line (derivation (question q.entry.bytes.now)) }
 {
     let mut buffer = [0u8; BUFFER];
     match writer::derive(q.bytes, BUDGET, &mut buffer) {
-        Ok(written) => {
-            let bytes = &buffer[..written.length as usize];
-            format!(in alloc; "{}\n", Hexadecimal(bytes))
-        }
-        Err(_) => String::from_str(alloc, "no space\n"),
+        Ok(written) => put_bytes(&buffer[..written.length as usize], out),
+        Err(_) => put_word(b"no space\n", out),
     }
 }
 
 // The text for an accepted question, by its verdict and its width.
-fn verdict_text(
-    alloc: Global,
-    q: Question<'_>,
-    v: Verdict,
-    width: u64,
-) -> Result<String, AllocError>
-    requires { v ≡ verdict defined.BUDGET (question q.bytes.now) }
-    ensures { IfOk result (λ s. string_bytes s
-        ≡ verdict_text v.kind v.reductions v.closings width (derivation (question q.entry.bytes.now))) }
+fn put_verdict(q: Question<'_>, v: Verdict, width: u64, out: &mut Text)
+    requires { (v ≡ verdict defined.BUDGET (question q.bytes.now)) × (out.old.items ≡ []) }
+    ensures { out.new.items
+        ≡ verdict_text v.kind v.reductions v.closings width (derivation (question q.entry.bytes.now)) }
 {
     let Verdict {
         kind,
@@ -59,28 +58,28 @@ fn verdict_text(
     } = v;
     match kind {
         Kind::Theorem => {
-            let second = derivation_line(alloc, q)?;
-            format!(in alloc; "theorem {reductions} {closings} {width}\n{second}")
+            put_line(b"theorem", &[reductions, closings, width], out);
+            put_derivation(q, out);
         }
-        Kind::Refuted(state) => {
-            format!(in alloc; "refuted {state} {reductions} {closings} {width}\n")
-        }
-        Kind::Spent => format!(in alloc; "spent {reductions} {closings} {width}\n"),
+        Kind::Refuted(state) => put_line(b"refuted", &[state, reductions, closings, width], out),
+        Kind::Spent => put_line(b"spent", &[reductions, closings, width], out),
     }
 }
 
 // The text for a question.
-fn text(alloc: Global, q: &[u8]) -> Result<String, AllocError>
-    ensures { IfOk result (λ s. string_bytes s ≡ ask_text q.now) }
+fn text(q: &[u8]) -> Text
+    ensures { result.items ≡ ask_text q.now }
 {
+    let mut out = Text::new();
     match Question::read(q) {
         Ok(question) => {
             let verdict = prover::verdict_of(question, BUDGET);
             let width = width::width(q).unwrap().width;
-            verdict_text(alloc, question, verdict, width)
+            put_verdict(question, verdict, width, &mut out);
         }
-        Err(r) => Refused(r).to_string(alloc),
+        Err(r) => put_refused(r, &mut out),
     }
+    out
 }
 
 // Zeros for the bytes read. Its `ensures` ties their number to the definition.
@@ -111,8 +110,8 @@ fn read_full<'a, R: Read>(from: &mut R, buffer: &'a mut [u8]) -> io::Result<&'a 
 fn main(rt: HostRuntime) -> io::Result<()> {
     let mut buffer = input();
     let q = read_full(&mut rt.stdin(), &mut buffer)?;
-    let text = text(rt.alloc(), q)?;
-    print!(rt; "{text}")
+    let text = text(q);
+    rt.write_all(text.as_slice())
 }
 
 #[cfg(test)]
@@ -123,10 +122,10 @@ mod tests {
     // Each form of line once; document 01's case 4 is the program's own stored output.
     #[test]
     fn has_memory(rt: HostRuntime) -> Result<(), Fail> {
-        let refuted = text(rt.alloc(), b"\x10\x00\x20\x00")?;
-        assert_eq!(rt; refuted.as_str(), "refuted 0 0 0 1\n");
-        let refused = text(rt.alloc(), b"\x10")?;
-        assert_eq!(rt; refused.as_str(), "refused 2 1\n");
+        let refuted = text(b"\x10\x00\x20\x00");
+        assert!(rt; refuted.as_slice() == b"refuted 0 0 0 1\n");
+        let refused = text(b"\x10");
+        assert!(rt; refused.as_slice() == b"refused 2 1\n");
         Ok(())
     }
 }

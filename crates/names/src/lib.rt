@@ -79,8 +79,9 @@ fn note(nodes: &mut ArrayVec<u32, ALL_CONNECTIVES>, w: u32) -> u8
     name(n)
 }
 
-// Names the formula at a position, and notes the nodes of its compounds.
+// Names the formula at a position, and notes the nodes of its compounds. A letter needs no call.
 #[cycle(number_number_parts)]
+#[inline(always)]
 fn number(q: &[u8], nodes: &mut ArrayVec<u32, ALL_CONNECTIVES>, at: usize) -> Ended<u8>
     requires { Numbers q.now at nodes.old.items }
     ensures { Numbered q.now at nodes.old.items nodes.new.items result }
@@ -96,6 +97,7 @@ fn number(q: &[u8], nodes: &mut ArrayVec<u32, ALL_CONNECTIVES>, at: usize) -> En
 
 // A compound with the connective k: its parts, then itself.
 #[cycle(number_number_parts)]
+#[inline(never)]
 fn number_parts(
     q: &[u8],
     nodes: &mut ArrayVec<u32, ALL_CONNECTIVES>,

@@ -1,6 +1,8 @@
--- What a pass stores: runs of names one after the other.
+-- What a pass stores: one name, runs of names one after the other.
 -- Assumes nothing.
-use Rattle.std.proofs.Common.{◌≡◌, refl, sym, ap, subst, ◌∙◌, List, [], ◌++◌, append_assoc, append-nil, ℕ, ◌+◌, ◌≤◌, arith, length, take, drop, length-append, length-drop, length-take-le, drop-drop}
+use Rattle.std.proofs.Common.{◌≡◌, refl, sym, ap, subst, ◌∙◌, List, [], ◌∷◌, ◌++◌, append_assoc, append-nil, ℕ, ◌+◌, ◌≤◌, ◌<◌, add-one, arith, length, take, drop, length-append, length-drop, length-take-le, drop-drop}
+use lib.ListN.{set, length-set}
+use lib.Seq.{take-suc-set, drop-set-lt}
 use Rattle.std.proofs.lemmas.Slice.{take-put_mid, drop-put_mid}
 use borrow.Rule.Slice.PartMut.{put_mid, same_len_mid}
 use Rattle.sequent.specs.declared.Pass.{Pass}
@@ -8,6 +10,17 @@ use Rattle.sequent.specs.Passes.{Stored}
 
 abbrev pub pass : ℕ → ℕ → ℕ → Pass
 pass i j n = record { from = i; to = j; stores = n }
+
+pub one : (f i j n x : ℕ) (l : List ℕ) → j < length l → Stored (pass i j n) (pass f (j + 1) (n + 1)) f (x ∷ []) l (set l j x)
+one f i j n x l h =
+    record {
+      held = rw (add-one j) (take-suc-set l j x h);
+      behind = drop-set-lt (j + 1) l j x (omega arith);
+      size = length-set l j x;
+      to = omega arith;
+      stores = omega arith;
+      from = refl;
+    }
 
 pub chain : {a b c : Pass} {f g : ℕ} {xs ys l m n : List ℕ} → Stored a b f xs l m → Stored b c g ys m n → Stored a c g (xs ++ ys) l n
 chain {a} {b} {c} {f} {g} {xs} {ys} {l} {m} {n} h k =

@@ -1,13 +1,15 @@
 -- The premises that a rule makes of names stand for the premises of the rules, and have as many formulas.
 -- Assumes nothing.
 use Rattle.std.proofs.Common.{◌≡◌, refl, sym, ap, ◌∙◌, List, [], ◌∷◌, ◌++◌, map, ℕ, arith}
+use Rattle.std.proofs.Math.Path.{fun_ext}
 use mathlib.Core.List.{map-append}
 use Rattle.std.proofs.Math.ListN.{length-map}
 use Rattle.calculus.specs.declared.Side.{Side}
 use Rattle.calculus.specs.declared.Side.TheVariants.{Left, Right}
+use Rattle.calculus.specs.Fold.{fold, SUM}
 use Rattle.calculus.specs.Syntax.{Formula, Compound, Seq, size}
 use Rattle.calculus.specs.Table.{Part, F, G, Put, L, R, table, fill, on, splice, premise, premises}
-use Rattle.calculus.proofs.Folds.{ones}
+use Rattle.calculus.proofs.Folds.{ones, fold_map}
 use Rattle.sequent.specs.declared.Which.{Which}
 use Rattle.sequent.specs.declared.Which.TheVariants.{Neither, First, Second, Both}
 use Rattle.sequent.specs.Rule.{Placing, pick, parts_on, premise_of, premises_of, sided, placed}
@@ -81,3 +83,9 @@ module _ (φ : ℕ → Formula) (S : Seq ℕ) (t : Side) (i : ℕ) (f g : ℕ) (
     pub rule_premises : map (λ p. named φ (premise t i S (placed p f g))) r ≡ premises t i x (named φ S)
     rule_premises =
         rows_named r ∙ ap (map (row t i x.f x.g (named φ S))) rows ∙ sym (rows_filled (table x.connective t))
+
+    -- the stores of all premises of a rule
+    pub rule_stores : fold SUM (λ p. size (premise t i S (placed p f g))) r ≡ fold SUM size (premises t i x (named φ S))
+    rule_stores =
+        ap (λ (h : Placing → ℕ). fold SUM h r) (fun_ext (λ p. sym (size_named φ (premise t i S (placed p f g)))))
+        ∙ sym (fold_map SUM size (λ p. named φ (premise t i S (placed p f g))) r) ∙ ap (fold SUM size) rule_premises

@@ -7,7 +7,7 @@ ghost use Rattle.std.specs.List.{concat};
 ghost use Rattle.calculus.specs.Limits.{FORMULAS};
 ghost use Rattle.calculus.specs.Syntax.{on_side};
 ghost use Rattle.calculus.specs.Bytes.{SIDE, code, encode, bytes_all, question};
-ghost use Rattle.calculus.specs.Standard.{insert, arranged};
+ghost use Rattle.calculus.specs.Standard.{compare, insert, arranged};
 ghost use Rattle.calculus.specs.Reply.{spell};
 ghost use Rattle.spelling.specs.declared.NotSpelled.TheVariants.{Refused};
 ghost use Rattle.spelling.specs.Sides.{side_bytes};
@@ -16,21 +16,54 @@ ghost use Rattle.spelling.specs.Answers.{spelling_of, Spells};
 use arrayvec::ArrayVec;
 use calculus::Side;
 use question::{ALL_FORMULAS, Formulas, Question, Refusal};
+use std::cmp::Ordering;
+use std::mem;
+
+// Bytes compared from the first: the order of a side's formulas, and std's `cmp` of slices, which takes longer.
+pub fn compare(x: &[u8], y: &[u8]) -> Ordering
+    ensures { result ≡ compare x.now y.now }
+{
+    for i in 0..x.len().min(y.len()) {
+        if x[i] != y[i] {
+            return x[i].cmp(&y[i]);
+        }
+    }
+    x.len().cmp(&y.len())
+}
 
 // Where a formula is among others that ascend, or else where it belongs. From the front: by halves (`binary_search`) spelling
-// takes 1.26 to 1.35 times what it took where sides have many formulas.
+// takes 1.26 to 1.35 times what it took where sides have many formulas. Each is compared once: with `position` and a test for
+// equal bytes behind it, sides of 16 formulas take 1.5 to 1.6 times what they took.
 fn spot_of(items: &[&[u8]], x: &[u8]) -> Result<usize, usize>
     ensures { let old = map (λ f. f.now) items.now in let new = insert (λ l. l) x.now old in MatchResult result
         (λ i. new ≡ old)
         (λ i. (i ≤ length old) × (new ≡ take i old ++ x.now ∷ drop i old)) }
 {
-    let n = items.len();
-    let i = items.iter().position(|f| x <= *f).unwrap_or(n);
-    if i < n && items[i] == x {
-        Ok(i)
-    } else {
-        Err(i)
+    for (i, f) in items.iter().enumerate() {
+        match compare(x, *f) {
+            Ordering::Less => {
+                return Err(i);
+            }
+            Ordering::Equal => {
+                return Ok(i);
+            }
+            Ordering::Greater => {}
+        }
     }
+    Err(items.len())
+}
+
+// Puts a formula before item i: each from there on makes way for the one before it. (The kit's `insert` moves them by a function
+// of the C library that the archive does not need.)
+fn put<'a>(formulas: &mut ArrayVec<&'a [u8], ALL_FORMULAS>, i: usize, x: &'a [u8])
+    requires { (i ≤ length formulas.old.items) × (length formulas.old.items < FORMULAS) }
+    ensures { let old = map (λ f. f.now) formulas.old.items in map (λ f. f.now) formulas.new.items ≡ take i old ++ x.now ∷ drop i old }
+{
+    let mut next = x;
+    for place in &mut formulas.as_mut_slice()[i..] {
+        next = mem::replace(place, next);
+    }
+    formulas.push(next);
 }
 
 // Puts a formula where it belongs among others that ascend by their bytes, unless it is there.
@@ -39,7 +72,7 @@ fn enter<'a>(formulas: &mut ArrayVec<&'a [u8], ALL_FORMULAS>, x: &'a [u8])
     ensures { map (λ f. f.now) formulas.new.items ≡ insert (λ l. l) x.now (map (λ f. f.now) formulas.old.items) }
 {
     if let Err(i) = spot_of(formulas.as_slice(), x) {
-        formulas.insert(i, x);
+        put(formulas, i, x);
     }
 }
 
@@ -67,6 +100,17 @@ fn bytes_of(formulas: &[&[u8]]) -> usize
     formulas.iter().map(|f| f.len()).sum()
 }
 
+// Copies bytes, one after the other: `copy_from_slice` is a call of the C library's `memmove` here, which the archive needs for nothing
+// else, and most formulas are a few bytes long.
+fn copy_bytes(from: &[u8], to: &mut [u8])
+    requires { length from.now ≡ length to.old }
+    ensures { to.new ≡ from.now }
+{
+    for i in 0..to.len() {
+        to[i] = from[i];
+    }
+}
+
 // Writes a side: its command, how many formulas it has, and these. Answers how many bytes are written.
 fn write_side(side: Side, formulas: &[&[u8]], out: &mut [u8]) -> usize
     requires { (length formulas.now ≤ FORMULAS)
@@ -79,7 +123,7 @@ fn write_side(side: Side, formulas: &[&[u8]], out: &mut [u8]) -> usize
     let mut at = 2;
     for f in formulas {
         let end = at + f.len();
-        out[at..end].copy_from_slice(*f);
+        copy_bytes(*f, &mut out[at..end]);
         at = end;
     }
     at

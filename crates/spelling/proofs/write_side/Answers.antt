@@ -8,8 +8,8 @@ loop-f-init c =
     let a = c.args in
     rw c.head_of.ensures (writing_first (code (SIDE a.side)) (length a.formulas.now) (map (λ f. f.now) a.formulas.now) a.out.now (omega (arith, counted a.formulas.now, c.requires.1)))
 
-pub slice_bounds-copy_from_slice-end : goal.slice_bounds-copy_from_slice-end
-slice_bounds-copy_from_slice-end c =
+pub slice_bounds-copy_bytes-end : goal.slice_bounds-copy_bytes-end
+slice_bounds-copy_bytes-end c =
     let a = c.args in
     let l = c.loop-f in
     let h = code (SIDE a.side) ∷ length a.formulas.now ∷ [] in
@@ -20,7 +20,7 @@ loop-f-preserved c =
     let a = c.args in
     let l = c.loop-f in
     let h = code (SIDE a.side) ∷ length a.formulas.now ∷ [] in
-    rw c.copy_from_slice.ensures.after (writing_next h a.formulas.now a.out.now l.out l.at l.f-index l.invariant c.loop-f-test.true _)
+    rw c.copy_bytes.ensures (writing_next h a.formulas.now a.out.now l.out l.at l.f-index l.invariant c.loop-f-test.true _)
 
 pub returns : goal.returns
 returns c =
