@@ -67,19 +67,18 @@ fn put_verdict(q: Question<'_>, v: Verdict, width: u64, out: &mut Text)
 }
 
 // The text for a question.
-fn text(q: &[u8]) -> Text
-    ensures { result.items ≡ ask_text q.now }
+fn text(q: &[u8], out: &mut Text)
+    requires { out.old.items ≡ [] }
+    ensures { out.new.items ≡ ask_text q.now }
 {
-    let mut out = Text::new();
     match Question::read(q) {
         Ok(question) => {
             let verdict = prover::verdict_of(question, BUDGET);
             let width = width::width(q).unwrap().width;
-            put_verdict(question, verdict, width, &mut out);
+            put_verdict(question, verdict, width, out);
         }
-        Err(r) => put_refused(r, &mut out),
+        Err(r) => put_refused(r, out),
     }
-    out
 }
 
 // Zeros for the bytes read. Its `ensures` ties their number to the definition.
@@ -110,8 +109,9 @@ fn read_full<'a, R: Read>(from: &mut R, buffer: &'a mut [u8]) -> io::Result<&'a 
 fn main(rt: HostRuntime) -> io::Result<()> {
     let mut buffer = input();
     let q = read_full(&mut rt.stdin(), &mut buffer)?;
-    let text = text(q);
-    rt.write_all(text.as_slice())
+    let mut out = Text::new();
+    text(q, &mut out);
+    rt.write_all(out.as_slice())
 }
 
 #[cfg(test)]
@@ -122,9 +122,11 @@ mod tests {
     // Each form of line once; document 01's case 4 is the program's own stored output.
     #[test]
     fn has_memory(rt: HostRuntime) -> Result<(), Fail> {
-        let refuted = text(b"\x10\x00\x20\x00");
+        let mut refuted = Text::new();
+        text(b"\x10\x00\x20\x00", &mut refuted);
         assert!(rt; refuted.as_slice() == b"refuted 0 0 0 1\n");
-        let refused = text(b"\x10");
+        let mut refused = Text::new();
+        text(b"\x10", &mut refused);
         assert!(rt; refused.as_slice() == b"refused 2 1\n");
         Ok(())
     }
