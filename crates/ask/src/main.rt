@@ -124,10 +124,10 @@ mod tests {
     fn has_memory(rt: HostRuntime) -> Result<(), Fail> {
         let mut refuted = Text::new();
         text(b"\x10\x00\x20\x00", &mut refuted);
-        assert!(rt; refuted.as_slice() == b"refuted 0 0 0 1\n");
+        assert!(rt; refuted.as_slice() == b"refuted 0 0 0 1\n".as_slice());
         let mut refused = Text::new();
         text(b"\x10", &mut refused);
-        assert!(rt; refused.as_slice() == b"refused 2 1\n");
+        assert!(rt; refused.as_slice() == b"refused 2 1\n".as_slice());
         Ok(())
     }
 }
